@@ -1,0 +1,138 @@
+-- The jobs that document 01 works by hand, as one statement over one list: each definition is computed and compared.
+use Prim.Native.Nat.{ℕ, zero, suc}
+use mathlib.Core.Path.{_≡_, refl}
+use mathlib.Core.Bool.{Bool, true, false}
+use mathlib.Core.List.{List, [], _∷_}
+use mathlib.Core.Option.{some}
+use lib.ListN.{length, replicate}
+use Rattle.aldlf.specs.Constants.{nodeLimit, automatonLimit, edgeLimit, letterT, letterF, letterP, letterN, letterO, letterD, letterB}
+use Rattle.aldlf.specs.Sheet.{sheetOf, noLine, noEdge, noAutomaton, bit}
+use Rattle.aldlf.specs.Verdict.{judge, rowOf}
+use Rattle.aldlf.specs.Outcomes.{one, bitsOf, plainRow, partWords, wholeNumber, wholeOutcome, partNumber, Part, partOutcome}
+use Rattle.aldlf.specs.Walks.{walkIn, walkOf, walkNumber, walkOutcome}
+use Rattle.aldlf.specs.declared.Table.{Table}
+use Rattle.aldlf.specs.declared.NodeLine.{NodeLine}
+use Rattle.aldlf.specs.declared.Edge.{Edge}
+use Rattle.aldlf.specs.declared.Automaton.{Automaton}
+use Rattle.aldlf.specs.declared.Row.{Row}
+use Rattle.aldlf.specs.declared.Way.the-variants.{Ahead}
+
+-- Tables -----------------------------------------------------------------------------------------------------------------------
+
+abbrev node : ℕ → ℕ → ℕ → NodeLine
+node kind a b = record { kind = kind; a = a; b = b }
+
+abbrev edge : ℕ → ℕ → ℕ → ℕ → Edge
+edge s d a t = record { from = record { 0 = s }; dir = d; test = record { 0 = a }; to = record { 0 = t } }
+
+abbrev automaton : (states start accepting first count before : ℕ) → Automaton
+automaton q r g f c b = record { states = q; start = record { 0 = r }; accepting = g; first = f; count = c; before = b }
+
+abbrev padded : {X : Type 0} → ℕ → List X → X → List X
+padded zero xs d = []
+padded (suc n) [] d = d ∷ padded n [] d
+padded (suc n) (x ∷ xs) d = x ∷ padded n xs d
+
+abbrev table : List NodeLine → List Automaton → List Edge → Table
+table ns ms es =
+    record {
+      nodes = padded nodeLimit ns noLine;
+      automata = padded automatonLimit ms noAutomaton;
+      edges = padded edgeLimit es noEdge;
+      used = record { nodes = length ns; automata = length ms; edges = length es };
+    }
+
+abbrev W : Table
+W = table (node letterT 0 0 ∷ node letterP 1 0 ∷ node letterD 0 1 ∷ []) (automaton 1 0 1 0 1 2 ∷ []) (edge 0 1 0 0 ∷ [])
+
+abbrev X : Table
+X = table (node letterT 0 0 ∷ node letterF 0 0 ∷ node letterB 0 1 ∷ []) (automaton 2 0 2 0 1 2 ∷ []) (edge 0 2 0 1 ∷ [])
+
+abbrev Y : Table
+Y = table (node letterT 0 0 ∷ node letterD 0 0 ∷ []) (automaton 2 0 2 0 1 1 ∷ []) (edge 0 1 0 1 ∷ [])
+
+abbrev Z : Table
+Z =
+    table
+    (node letterP 0 0
+    ∷ node letterP 1 0
+    ∷ node letterP 2 0
+    ∷ node letterN 0 0
+    ∷ node letterT 0 0
+    ∷ node letterD 0 1
+    ∷ node letterN 2 0
+    ∷ node letterO 6 5
+    ∷ node letterB 1 7
+    ∷ [])
+    (automaton 1 0 1 0 1 5 ∷ automaton 1 0 1 1 1 8 ∷ [])
+    (edge 0 2 3 0 ∷ edge 0 1 4 0 ∷ [])
+
+-- One state with a true test edge to itself: nodes T, F, B on F and D on T. `accepting` is 1 or 0.
+abbrev circle : ℕ → Table
+circle accepting =
+    table (node letterT 0 0 ∷ node letterF 0 0 ∷ node letterB 0 1 ∷ node letterD 0 0 ∷ []) (automaton 1 0 accepting 0 1 2 ∷ []) (edge 0 0 0 0 ∷ [])
+
+-- Jobs -------------------------------------------------------------------------------------------------------------------------
+
+-- Bit k of each word.
+abbrev column : ℕ → List ℕ → List ℕ
+column k [] = []
+column k (w ∷ ws) = one (bit w k) ∷ column k ws
+
+-- The words of facts 0, 1, 2 and of none: `0`, `1`, `2`, `-`.
+abbrev f0 : ℕ
+f0 = 1
+
+abbrev f1 : ℕ
+f1 = 2
+
+abbrev f2 : ℕ
+f2 = 4
+
+-- A job: node k's verdicts on a whole log; its walk at entry i, or the number by which that is refused; its verdicts on a part that is given a row, with bit 0 of its number in the row that the part gives.
+pub data Job : Type 0 where
+  verdicts : Table → (log : List ℕ) → (k : ℕ) → List ℕ → Job
+  walk : Table → (log : List ℕ) → (k i : ℕ) → List ℕ → Job
+  refused : Table → (log : List ℕ) → (k i : ℕ) → (number : ℕ) → Job
+  part : Table → Row → (words : List ℕ) → (k : ℕ) → List ℕ → (bit0 : Bool) → Job
+
+abbrev partOf : Table → Row → List ℕ → Part
+partOf t row words = partOutcome true Ahead (sheetOf t) row words (replicate (length words) 0)
+
+abbrev Right : Job → Type 0
+Right (verdicts t log k wanted) = column k (wholeOutcome true (sheetOf t) log (replicate (length log) 0) .buffer) ≡ wanted
+Right (walk t log k i wanted) = walkOf (sheetOf t) log k i ≡ some wanted
+Right (refused t log k i number) = walkOutcome true (sheetOf t) log k i [] .number ≡ number
+Right (part t row words k wanted bit0) = (column k (partOf t row words .buffer) ≡ wanted) × (bitsOf (partOf t row words .row) k 0 ≡ bit0)
+
+abbrev AllRight : List Job → Type 0
+AllRight [] = Unit {0}
+AllRight (j ∷ js) = Right j × AllRight js
+
+abbrev jobs : List Job
+jobs =
+    verdicts W (f0 ∷ f1 ∷ f2 ∷ []) 2 (1 ∷ 1 ∷ 0 ∷ [])
+    ∷ verdicts W (0 ∷ []) 2 (0 ∷ [])
+    ∷ verdicts X (0 ∷ 0 ∷ 0 ∷ []) 2 (1 ∷ 0 ∷ 0 ∷ [])
+    ∷ verdicts Y (0 ∷ 0 ∷ 0 ∷ []) 1 (1 ∷ 1 ∷ 0 ∷ [])
+    ∷ verdicts Y (0 ∷ []) 1 (0 ∷ [])
+    ∷ verdicts Z (f0 ∷ f1 ∷ f2 ∷ f0 ∷ f2 ∷ []) 5 (0 ∷ 1 ∷ 1 ∷ 0 ∷ 0 ∷ [])
+    ∷ verdicts Z (f0 ∷ f1 ∷ f2 ∷ f0 ∷ f2 ∷ []) 8 (0 ∷ 0 ∷ 0 ∷ 0 ∷ 0 ∷ [])
+    ∷ verdicts Z (f0 ∷ f1 ∷ f2 ∷ f0 ∷ []) 8 (1 ∷ 1 ∷ 1 ∷ 1 ∷ [])
+    ∷ verdicts (circle 1) (0 ∷ []) 2 (0 ∷ [])
+    ∷ verdicts (circle 0) (0 ∷ []) 3 (0 ∷ [])
+    ∷ verdicts (circle 0) (0 ∷ []) 2 (1 ∷ [])
+    ∷ walk Z (f0 ∷ f1 ∷ f2 ∷ f0 ∷ f2 ∷ []) 8 4 []
+    ∷ walk Z (f0 ∷ f1 ∷ f2 ∷ f0 ∷ f2 ∷ []) 8 0 (1 ∷ 1 ∷ 1 ∷ 1 ∷ [])
+    ∷ walk W (f0 ∷ f1 ∷ f2 ∷ []) 2 0 (0 ∷ [])
+    ∷ refused W (f0 ∷ f1 ∷ f2 ∷ []) 2 2 39
+    ∷ part W (plainRow (sheetOf W)) (f2 ∷ []) 2 (0 ∷ []) false
+    ∷ part W (partOf W (plainRow (sheetOf W)) (f2 ∷ []) .row) (f0 ∷ f1 ∷ []) 2 (1 ∷ 1 ∷ []) true
+    ∷ part W (plainRow (sheetOf W)) (f1 ∷ f2 ∷ []) 2 (1 ∷ 0 ∷ []) true
+    ∷ part W (partOf W (plainRow (sheetOf W)) (f1 ∷ f2 ∷ []) .row) (f0 ∷ []) 2 (1 ∷ []) true
+    ∷ []
+
+pub worked : AllRight jobs
+unfolding sheetOf judge rowOf partWords wholeNumber wholeOutcome partNumber partOutcome walkIn walkOf walkNumber walkOutcome
+worked =
+    (refl, (refl, (refl, (refl, (refl, (refl, (refl, (refl, (refl, (refl, (refl, (refl, (refl, (refl, (refl, ((refl, refl), ((refl, refl), ((refl, refl), ((refl, refl), tt)))))))))))))))))))
