@@ -11,6 +11,7 @@ pub mod Same
 pub mod Splitting
 pub mod Packing
 pub mod Runs
+pub mod Laws
 pub mod Sequences
 pub mod Search
 pub mod Short
