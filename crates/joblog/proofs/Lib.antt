@@ -1,0 +1,9 @@
+pub mod Held
+pub mod LineFacts
+pub mod Words
+pub mod Places
+pub mod LineByLine
+pub mod Storing
+pub mod Questions
+pub mod Worked
+pub mod Answers

@@ -1,0 +1,3 @@
+pub mod Log
+pub mod Reader
+pub mod Steps
