@@ -1,0 +1,152 @@
+-- What a line that passes questions 3 to 9 says in numbers, letter by letter; the fields that a line has not are 0.
+use Prim.Native.Nat.{ℕ, _-_, _≤_, _<_, min}
+use mathlib.Core.Path.{_≡_, refl}
+use mathlib.Core.List.{List, []}
+use mathlib.Core.Bool.{Bool, true, false, cond, not, _&&_}
+use mathlib.Core.Logic.{_⊎_, inl, inr}
+use native.Mathlib.Omega.{arith}
+use lib.ListN.{length, getD}
+use lib.Dec.{ltb, leb}
+use borrow.Author.Tests.{ne-eqb, le-ltb, ltb-true, leb-true, eqb-true, not-true}
+use Rattle.aldlf.specs.Constants.{letterP, letterN, letterA, letterO, letterD, letterB, letterM, letterG, letterE}
+use Rattle.aldlf.specs.Sheet.{bit}
+use Rattle.aldlf.specs.declared.Table.{Table}
+use Rattle.text.specs.Text.{number}
+use Rattle.sheet.specs.declared.line.Line.{Line}
+use Rattle.sheet.specs.declared.build.Reading.{Reading}
+use Rattle.sheet.specs.Questions.{parsed, arity, knownLine, allNumbers, roomLeft, belongs, last, inRange, newlyAccepting, plainStep, question}
+use Rattle.sheet.proofs.Bools.{both}
+
+-- what the answers 0 to the questions say
+yes-of : (a : Bool) (x n : ℕ) → (n ≡ 0 → ⊥) → cond a x n ≡ 0 → (a ≡ true) × (x ≡ 0)
+yes-of true x n f e = (refl, e)
+yes-of false x n f e = absurd (f e)
+
+pub record Passed (r : Reading) (l : Line) : Type 0 where
+  pub p3 : knownLine l ≡ true
+  pub p4 : allNumbers l ≡ true
+  pub p5 : roomLeft (r .table .used) l ≡ true
+  pub p6 : belongs (r .inside) l ≡ true
+  pub p7 : inRange (r .table .used) (last (r .table)) l ≡ true
+  pub p8 : newlyAccepting (last (r .table)) l ≡ true
+  pub p9 : plainStep (r .table .nodes) l ≡ true
+
+pub passed : (r : Reading) (l : Line) → question r l ≡ 0 → Passed r l
+unfolding question
+passed r l e =
+    let y3 = yes-of (knownLine l) _ 3 (omega arith) e in
+    let y4 = yes-of (allNumbers l) _ 4 (omega arith) (y3 .1) in
+    let y5 = yes-of (roomLeft (r .table .used) l) _ 5 (omega arith) (y4 .1) in
+    let y6 = yes-of (belongs (r .inside) l) _ 6 (omega arith) (y5 .1) in
+    let y7 = yes-of (inRange (r .table .used) (last (r .table)) l) _ 7 (omega arith) (y6 .1) in
+    let y8 = yes-of (newlyAccepting (last (r .table)) l) _ 8 (omega arith) (y7 .1) in
+    let y9 = yes-of (plainStep (r .table .nodes) l) 0 9 (omega arith) (y8 .1) in
+    record { p3 = y3 .0; p4 = y4 .0; p5 = y5 .0; p6 = y6 .0; p7 = y7 .0; p8 = y8 .0; p9 = y9 .0 }
+
+-- the fields that a line has not are 0
+pub record Absent (l : Line) : Type 0 where
+  pub a0 : l .count ≤ 0 → l .a ≡ 0
+  pub b0 : l .count ≤ 1 → l .b ≡ 0
+  pub c0 : l .count ≤ 2 → l .c ≡ 0
+  pub d0 : l .count ≤ 3 → l .d ≡ 0
+  pub few : l .count ≤ 5
+
+none-at : (n i x : ℕ) → i ≤ 4 → min 5 (n - 1) < i → cond (ltb i n) x 0 ≡ 0
+none-at n i x w h = rw (le-ltb i n (omega arith))
+
+pub absent : (fs : List (List ℕ)) → Absent (parsed fs)
+unfolding parsed
+absent fs =
+    record {
+      a0 = λ h. none-at (length fs) 1 (number (getD fs 1 [])) (omega arith) (omega arith);
+      b0 = λ h. none-at (length fs) 2 (number (getD fs 2 [])) (omega arith) (omega arith);
+      c0 = λ h. none-at (length fs) 3 (number (getD fs 3 [])) (omega arith) (omega arith);
+      d0 = λ h. none-at (length fs) 4 (number (getD fs 4 [])) (omega arith) (omega arith);
+      few = omega arith;
+    }
+
+pub two-range : (a m b n : ℕ) → (ltb a m && ltb b n) ≡ true → (a < m) × (b < n)
+two-range a m b n h =
+    let x = both (ltb a m) (ltb b n) h in
+    (ltb-true a m (x .0), ltb-true b n (x .1))
+
+pub m-range : (a b : ℕ) → (leb 1 a && leb a 16 && ltb b a) ≡ true → (1 ≤ a) × (a ≤ 16) × (b < a)
+m-range a b h =
+    let x = both (leb 1 a && leb a 16) (ltb b a) h in
+    let y = both (leb 1 a) (leb a 16) (x .0) in
+    (leb-true 1 a (y .0), leb-true a 16 (y .1), ltb-true b a (x .1))
+
+pub e-range : (a b c d q n : ℕ) → (ltb a q && ltb b 3 && ltb c n && ltb d q) ≡ true → (a < q) × (b < 3) × (c < n) × (d < q)
+e-range a b c d q n h =
+    let x = both (ltb a q && ltb b 3 && ltb c n) (ltb d q) h in
+    let y = both (ltb a q && ltb b 3) (ltb c n) (x .0) in
+    let z = both (ltb a q) (ltb b 3) (y .0) in
+    (ltb-true a q (z .0), ltb-true b 3 (z .1), ltb-true c n (y .1), ltb-true d q (x .1))
+
+-- what each letter's questions say, in numbers
+pub record Said-M (t : Table) (l : Line) : Type 0 where
+  pub room : t .used .automata < 16
+  pub range : (1 ≤ l .a) × (l .a ≤ 16) × (l .b < l .a)
+
+pub record Said-G (r : Reading) (l : Line) : Type 0 where
+  pub in-M : r .inside ≡ true
+  pub range : l .a < last (r .table) .states
+  pub clear : bit (last (r .table) .accepting) (l .a) ≡ false
+
+pub record Said-E (r : Reading) (l : Line) : Type 0 where
+  pub room : r .table .used .edges < 256
+  pub in-M : r .inside ≡ true
+  pub range : (l .a < last (r .table) .states) × (l .b < 3) × (l .c < r .table .used .nodes) × (l .d < last (r .table) .states)
+
+module _ (r : Reading) (l : Line) (p : Passed r l) where
+  pub said-M : l .letter ≡ letterM → Said-M (r .table) l
+  unfolding roomLeft inRange
+  said-M e =
+      let h5 : ltb (r .table .used .automata) 16 ≡ true = rw e at (p .p5) in
+      let h7 : (leb 1 (l .a) && leb (l .a) 16 && ltb (l .b) (l .a)) ≡ true = rw e at (p .p7) in
+      record { room = ltb-true _ _ h5; range = m-range (l .a) (l .b) h7 }
+
+  pub said-G : l .letter ≡ letterG → Said-G r l
+  unfolding belongs inRange newlyAccepting
+  said-G e =
+      let h6 : r .inside ≡ true = rw e at (p .p6) in
+      let h7 : ltb (l .a) (last (r .table) .states) ≡ true = rw e at (p .p7) in
+      let h8 : not (bit (last (r .table) .accepting) (l .a)) ≡ true = rw e at (p .p8) in
+      record { in-M = h6; range = ltb-true _ _ h7; clear = not-true (bit (last (r .table) .accepting) (l .a)) h8 }
+
+  pub said-E : l .letter ≡ letterE → Said-E r l
+  unfolding roomLeft belongs inRange
+  said-E e =
+      let t = r .table in
+      let h5 : ltb (t .used .edges) 256 ≡ true = rw e at (p .p5) in
+      let h6 : r .inside ≡ true = rw e at (p .p6) in
+      let h7 : (ltb (l .a) (last t .states) && ltb (l .b) 3 && ltb (l .c) (t .used .nodes) && ltb (l .d) (last t .states)) ≡ true = rw e at (p .p7) in
+      record { room = ltb-true _ _ h5; in-M = h6; range = e-range (l .a) (l .b) (l .c) (l .d) (last t .states) (t .used .nodes) h7 }
+
+  pub said-count : l .count ≡ arity (l .letter)
+  unfolding knownLine
+  said-count = eqb-true (l .count) (arity (l .letter)) (p .p3)
+
+  pub said-room : (l .letter ≡ letterM → ⊥) → (l .letter ≡ letterG → ⊥) → (l .letter ≡ letterE → ⊥) → r .table .used .nodes < 64
+  unfolding roomLeft
+  said-room m g e =
+      let h : ltb (r .table .used .nodes) 64 ≡ true = rw (ne-eqb (l .letter) letterM m, ne-eqb (l .letter) letterG g, ne-eqb (l .letter) letterE e) at (p .p5) in
+      ltb-true _ _ h
+
+  pub said-P : l .letter ≡ letterP → l .a < 32
+  unfolding inRange
+  said-P e = let h : ltb (l .a) 32 ≡ true = rw e at (p .p7) in ltb-true _ _ h
+
+  pub said-N : l .letter ≡ letterN → l .a < r .table .used .nodes
+  unfolding inRange
+  said-N e = let h : ltb (l .a) (r .table .used .nodes) ≡ true = rw e at (p .p7) in ltb-true _ _ h
+
+  pub said-two : (l .letter ≡ letterA) ⊎ (l .letter ≡ letterO) → (l .a < r .table .used .nodes) × (l .b < r .table .used .nodes)
+  unfolding inRange
+  said-two (inl e) = let n = r .table .used .nodes in let h : (ltb (l .a) n && ltb (l .b) n) ≡ true = rw e at (p .p7) in two-range (l .a) n (l .b) n h
+  said-two (inr e) = let n = r .table .used .nodes in let h : (ltb (l .a) n && ltb (l .b) n) ≡ true = rw e at (p .p7) in two-range (l .a) n (l .b) n h
+
+  pub said-walk : (l .letter ≡ letterD) ⊎ (l .letter ≡ letterB) → (l .a < r .table .used .automata) × (l .b < r .table .used .nodes)
+  unfolding inRange
+  said-walk (inl e) = let n = r .table .used .nodes in let m = r .table .used .automata in let h : (ltb (l .a) m && ltb (l .b) n) ≡ true = rw e at (p .p7) in two-range (l .a) m (l .b) n h
+  said-walk (inr e) = let n = r .table .used .nodes in let m = r .table .used .automata in let h : (ltb (l .a) m && ltb (l .b) n) ≡ true = rw e at (p .p7) in two-range (l .a) m (l .b) n h

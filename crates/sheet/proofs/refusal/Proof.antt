@@ -1,0 +1,14 @@
+-- `refusal` meets its contract. Assumes nothing.
+use Prim.Native.Nat.{_-_}
+use borrow.Author.Needs.{needs}
+use Rattle.sheet.proofs.refusal.Statement.{statement}
+use Rattle.sheet.proofs.refusal.Tie as tie
+
+empty-table-requires : tie.Need-empty-table-requires
+empty-table-requires c κs = search needs
+
+returns : tie.Need-returns
+returns c = rw (c .empty-table .ensures)
+
+pub refusal-spec : {M : Type 1} → statement M
+refusal-spec = tie.close (tie.spec empty-table-requires returns)

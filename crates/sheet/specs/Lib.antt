@@ -1,0 +1,4 @@
+pub mod Questions
+pub mod Given
+pub mod Room
+pub mod Facts

@@ -1,0 +1,73 @@
+// Reading a rule sheet to its table (document 01's questions 1 to 11), and which tables some sheet gives (question 31).
+mod build;
+mod closing;
+mod given;
+mod line;
+mod questions;
+
+use aldlf::Table;
+use build::Reading;
+use build::added_to;
+use build::empty_table;
+use build::start_reading;
+use closing::finish_of;
+use line::parse_line;
+use questions::question_of;
+ghost use mathlib.Core.Path.{_≡_};
+ghost use Rattle.sheet.specs.Questions.{readSheet, refused};
+ghost use Rattle.sheet.specs.Given.{wellFormed};
+
+// What a sheet reads to. Number 0: its table, and line 0. Else the number of the first question that gets a no, the line that
+// it is about (counted from 1; 0 where it is about none), and a table all zeros.
+pub struct SheetAnswer {
+    pub number: u8,
+    pub line: u16,
+    pub table: Table,
+}
+
+// The sheet's table, or the first question that gets a no and the line it is about.
+// The text is read in one pass: a line is asked and added before the next is looked at.
+pub fn read_sheet(text: &[u8]) -> SheetAnswer
+    ensures { λ r. ⌜ r ≡ readSheet (now (text .entry)) ⌝ }
+{
+    if text::BYTES < text.len() {
+        return refusal(1, 0);
+    }
+    if !text::ends_in_lf(text) {
+        return refusal(2, 0);
+    }
+    let mut r = start_reading();
+    let mut k: u16 = 0;
+    let mut at: usize = 0;
+    while at < text.len() {
+        let line = text::line_at(text, at);
+        let l = parse_line(line);
+        k += 1;
+        let q = question_of(r, l);
+        if q != 0 {
+            return refusal(q, k);
+        }
+        r = added_to(r, k, l);
+        at = at + line.len() + 1;
+    }
+    finish_of(r, k)
+}
+
+// Whether some sheet gives the table: every table is answered, also one with numbers out of range.
+pub fn is_given(table: Table) -> bool
+    ensures { λ r. ⌜ r ≡ wellFormed table ⌝ }
+{
+    given::well_formed(table)
+}
+
+// The answer that question `number` gets a no at a line.
+pub(crate) fn refusal(number: u8, line: u16) -> SheetAnswer
+    ensures { λ r. ⌜ r ≡ refused number line ⌝ }
+{
+    let t = empty_table();
+    SheetAnswer {
+        number,
+        line,
+        table: t,
+    }
+}
