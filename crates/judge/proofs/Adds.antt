@@ -1,0 +1,104 @@
+-- A verdict added to each word, one entry after the other, and counted; arrays filled place by place.
+use Prim.Native.Nat.{ℕ, zero, suc, _+_, _*_, _^_, _≤_, _<_}
+use native.Mathlib.Omega.{arith}
+use native.Mathlib.Numerals.{add-one}
+use mathlib.Core.Path.{_≡_, refl, sym, subst, ap, ap₂, _∙_}
+use mathlib.Core.Logic.{_⊎_, inl, inr}
+use mathlib.Core.Bool.{Bool, true, false}
+use mathlib.Core.List.{List}
+use lib.Dec.{eqb, ltb}
+use lib.ListN.{getD, length, set, length-set, take, replicate}
+use lib.Seq.{ext-getD, getD-set-same, getD-set-other, length-take-le}
+use borrow.Author.Tests.{eqb-true, eqb-false, ltb-true, ltb-false}
+use Rattle.aldlf.specs.Constants.{nodeLimit, entryLimit}
+use Rattle.aldlf.specs.Outcomes.{one, packBits, countBelow, tabulate}
+use Rattle.aldlf.proofs.Bools.{bool-cases}
+use Rattle.aldlf.proofs.Packing.{length-tabulate, getD-tabulate}
+use Rattle.reach.specs.Marks.{at, verdictAdded}
+use Rattle.judge.specs.Nodes.{Added, Filled}
+
+pub added-none : (k : ℕ) (f : ℕ → Bool) (l : List ℕ) → Added k f 0 l l 0
+added-none k f l = record { counted = refl; same = refl; done = λ i h. absurd (omega arith); rest = λ i h. refl }
+
+-- place n: F tells the verdict from the word before
+pub added-turn : (k : ℕ) (F : ℕ → ℕ → Bool) (n : ℕ) (before after : List ℕ) (on : Bool) (v held held2 : ℕ) → Added k (λ i. F i (at before i)) n before after held → n < length before
+    → on ≡ F n (at after n) → v ≡ verdictAdded (at after n) k on → held2 ≡ one on + held → Added k (λ i. F i (at before i)) (n + 1) before (set after n v) held2
+added-turn k F n before after on v held held2 a l o e c =
+    record {
+      counted = c ∙ ap₂ (λ (b : Bool) (x : ℕ). one b + x) (o ∙ ap (F n) was) (a .counted) ∙ ap (λ (m : ℕ). countBelow m (λ i. F i (at before i))) (sym (add-one n));
+      same = length-set after n v ∙ a .same;
+      done = λ i h. now-at i h (bool-cases (eqb i n));
+      rest = λ i h. getD-set-other after n i v 0 (omega arith) ∙ a .rest i (omega arith);
+    }
+  where
+    was : at after n ≡ at before n
+    was = a .rest n (omega arith)
+
+    now-is : v ≡ verdictAdded (at before n) k (F n (at before n))
+    now-is = e ∙ ap (verdictAdded (at after n) k) o ∙ ap (λ (x : ℕ). verdictAdded x k (F n x)) was
+
+    now-at : (i : ℕ) → i < n + 1 → (eqb i n ≡ true) ⊎ (eqb i n ≡ false) → at (set after n v) i ≡ verdictAdded (at before i) k (F i (at before i))
+    now-at i h (inl p) = subst (λ (j : ℕ). at (set after n v) j ≡ verdictAdded (at before j) k (F j (at before j))) (sym (eqb-true i n p)) (getD-set-same after n v 0 (omega (arith, a .same)) ∙ now-is)
+    now-at i h (inr p) = let ne = eqb-false i n p in getD-set-other after n i v 0 ne ∙ a .done i (omega arith)
+
+pub count-le : (n : ℕ) (f : ℕ → Bool) → countBelow n f ≤ n
+count-le zero f = omega arith
+count-le (suc n) f = let a = one-le (f n) in let b = count-le n f in omega arith
+  where
+    one-le : (b : Bool) → one b ≤ 1
+    one-le true = omega arith
+    one-le false = omega arith
+
+pub count-cong : (n : ℕ) (f g : ℕ → Bool) → ((i : ℕ) → i < n → f i ≡ g i) → countBelow n f ≡ countBelow n g
+count-cong zero f g e = refl
+count-cong (suc n) f g e = ap₂ (λ (b : Bool) (x : ℕ). one b + x) (e n (omega arith)) (count-cong n f g (λ i l. e i (omega arith)))
+
+pub cleared-next : (l : List ℕ) (i : ℕ) → i < length l → ((j : ℕ) → j < i → at l j ≡ 0) → (j : ℕ) → j < i + 1 → at (set l i 0) j ≡ 0
+cleared-next l i h f j lj = go (bool-cases (eqb j i))
+  where
+    go : (eqb j i ≡ true) ⊎ (eqb j i ≡ false) → at (set l i 0) j ≡ 0
+    go (inl p) = ap (at (set l i 0)) (eqb-true j i p) ∙ getD-set-same l i 0 0 h
+    go (inr p) = let ne = eqb-false j i p in getD-set-other l i j 0 0 ne ∙ f j (omega arith)
+
+-- the first places of an array of zeros
+pub zeros-long : (n : ℕ) → n ≤ entryLimit → let z : ℕ = 0 in length (take n (replicate entryLimit z)) ≡ n
+zeros-long n l = length-take-le n (replicate entryLimit 0) l
+
+-- Arrays of 64 ------------------------------------------------------------------------------------------------------------------
+
+zeros-at : (n j : ℕ) → let z : ℕ = 0 in getD (replicate n z) j z ≡ z
+zeros-at zero j = refl
+zeros-at (suc n) zero = refl
+zeros-at (suc n) (suc j) = zeros-at n j
+
+module _ (f : ℕ → ℕ) where
+  pub filled-start : Filled f (replicate nodeLimit 0) 0
+  filled-start = record { size = refl; done = λ j l. absurd (omega arith); left = λ j l. zeros-at nodeLimit j }
+
+  pub filled-next : (out : List ℕ) (k v : ℕ) → k < nodeLimit → Filled f out k → v ≡ f k → Filled f (set out k v) (k + 1)
+  filled-next out k v l F e =
+      record {
+        size = length-set out k v ∙ F .size;
+        done = λ j h. go j h (bool-cases (eqb k j));
+        left = λ j h. getD-set-other out k j v 0 (λ z. omega arith) ∙ F .left j (omega arith);
+      }
+    where
+      go : (j : ℕ) → j < k + 1 → (eqb k j ≡ true) ⊎ (eqb k j ≡ false) → getD (set out k v) j 0 ≡ f j
+      go j h (inl p) = let q : k ≡ j = eqb-true k j p in subst (λ (z : ℕ). getD (set out k v) z 0 ≡ f z) q (getD-set-same out k v 0 (omega (arith, F .size)) ∙ e)
+      go j h (inr p) = let ne : ¬ (k ≡ j) = eqb-false k j p in getD-set-other out k j v 0 (λ z. ne (sym z)) ∙ F .done j (omega arith)
+
+  pub filled-end : (out : List ℕ) (n : ℕ) → Filled f out n → ((j : ℕ) → n ≤ j → f j ≡ 0) → out ≡ tabulate nodeLimit f
+  filled-end out n F rest = ext-getD 0 out (tabulate nodeLimit f) (F .size ∙ sym (length-tabulate nodeLimit f))
+      (λ j l. place j (bool-cases (ltb j n)) ∙ sym (getD-tabulate nodeLimit f j 0 (omega (arith, F .size))))
+    where
+      place : (j : ℕ) → (ltb j n ≡ true) ⊎ (ltb j n ≡ false) → getD out j 0 ≡ f j
+      place j (inl e) = F .done j (ltb-true j n e)
+      place j (inr e) = let h = ltb-false j n e in F .left j h ∙ sym (rest j h)
+
+-- a word with one verdict more
+pub word-next : (p : ℕ → Bool) (k w : ℕ) (on : Bool) (r : ℕ) → w ≡ packBits k p → on ≡ p k → r ≡ verdictAdded w k on → r ≡ packBits (k + 1) p
+word-next p k w on r e o z = z ∙ go on ∙ ap₂ (λ (b : Bool) (x : ℕ). one b * 2 ^ k + x) o e ∙ ap (λ (m : ℕ). packBits m p) (sym (add-one k))
+  where
+    go : (b : Bool) → verdictAdded w k b ≡ one b * 2 ^ k + w
+    go true = omega arith
+    go false = omega arith

@@ -1,0 +1,10 @@
+pub mod Adds
+pub mod Slices
+pub mod WordLaws
+pub mod RowLaws
+pub mod ModalLaws
+pub mod KnownLaws
+pub mod QuestionLaws
+pub mod GivenLaws
+pub mod OutcomeLaws
+pub mod Demand

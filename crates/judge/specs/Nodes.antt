@@ -1,0 +1,123 @@
+-- Helper definitions that only the proofs of the code need: a node judged from the words of those before it, and what is known on the way.
+use Prim.Native.Nat.{ℕ, zero, suc, _+_, _-_, _^_, _%_, _≤_, _<_}
+use mathlib.Core.Path.{_≡_}
+use mathlib.Core.Logic.{_⊎_}
+use mathlib.Core.Bool.{Bool, true, false, not, _&&_, _||_}
+use mathlib.Core.List.{List}
+use lib.Dec.{eqb}
+use lib.ListN.{getD, length}
+use Rattle.aldlf.specs.Constants.{nodeLimit, stateLimit, letterP, letterN, letterA, letterO, letterD, letterB}
+use Rattle.aldlf.specs.Sheet.{Sheet, Line, T, F, P, N, A, O, D, B, bit, sheetOf}
+use Rattle.aldlf.specs.Parts.{Bits, rowEntry}
+use Rattle.aldlf.specs.Verdict.{facing, judge, rowOf}
+use Rattle.aldlf.specs.Outcomes.{packBits, countBelow, bitsOf, packRow, partWords}
+use Rattle.aldlf.specs.declared.Table.{Table}
+use Rattle.aldlf.specs.declared.Row.{Row}
+use Rattle.aldlf.specs.declared.NodeLine.{NodeLine}
+use Rattle.sheet.specs.Facts.{nodeAt, automatonAt, edgeAt, NodeFacts, TableFacts}
+use Rattle.reach.specs.Marks.{at, pick, verdictIn, verdictAdded, packedOf, Reaching}
+use Rattle.judge.specs.declared.core.Part.{Part}
+use Rattle.judge.specs.declared.core.CoreAnswer.{CoreAnswer}
+use Rattle.judge.specs.declared.nodes.Job.{Job}
+use Rattle.judge.specs.declared.nodes.NodeAnswer.{NodeAnswer}
+
+-- A D or B line's letter.
+abbrev pub modalKind : ℕ → Bool
+modalKind kind = eqb kind letterD || eqb kind letterB
+
+-- A line that is no D or B, at the entry with these facts and this word of the nodes before the line.
+abbrev pub saysNow : Line → (facts word : ℕ) → Bool
+saysNow T facts word = true
+saysNow F facts word = false
+saysNow (P f) facts word = bit facts f
+saysNow (N a) facts word = not (verdictIn word a)
+saysNow (A a b) facts word = verdictIn word a && verdictIn word b
+saysNow (O a b) facts word = verdictIn word a || verdictIn word b
+saysNow (D m a) facts word = false
+saysNow (B m a) facts word = false
+
+-- What reading a line that is no D or B asks of its numbers.
+pub record PlainFits (l : NodeLine) : Type 0 where
+  pub plain : modalKind (l .kind) ≡ false
+  pub fact : l .kind ≡ letterP → l .a < 64
+  pub one-node : l .kind ≡ letterN → l .a < nodeLimit
+  pub two-nodes : (l .kind ≡ letterA) ⊎ (l .kind ≡ letterO) → (l .a < nodeLimit) × (l .b < nodeLimit)
+
+-- A mask of 16 bits as it is, or the other bits.
+abbrev pub facingMask : ℕ → Bool → ℕ
+facingMask x want = pick want x (65535 - x)
+
+-- The node's number in the row that a part with these masks gives.
+unfoldable pub rowNumber : Job → Bool → List ℕ → ℕ
+rowNumber j want M = pick (eqb (length M) 0) (j .given) (facingMask (at M (rowEntry (j .way) (length M))) want) % 2 ^ j .automaton .states
+
+-- A line's number in the plain row.
+abbrev pub plainNumber : NodeLine → (states : ℕ) → ℕ
+plainNumber l states = pick (eqb (l .kind) letterB) (65535 % 2 ^ states) 0
+
+-- Verdicts on node k were added to the first n words, as f says, yes in `held` of them.
+pub record Added (k : ℕ) (f : ℕ → Bool) (n : ℕ) (before after : List ℕ) (held : ℕ) : Type 0 where
+  pub counted : held ≡ countBelow n f
+  pub same : length after ≡ length before
+  pub done : (i : ℕ) → i < n → at after i ≡ verdictAdded (at before i) k (f i)
+  pub rest : (i : ℕ) → n ≤ i → at after i ≡ at before i
+
+-- What judging a D or B asks of its numbers.
+pub record ModalFits (j : Job) : Type 0 where
+  pub few-states : j .automaton .states ≤ stateLimit
+  pub start-fits : j .automaton .start .0 < stateLimit
+  pub node-fits : j .line .b < nodeLimit
+  pub in-table : j .number .0 < nodeLimit
+
+-- A D (want) or B line with these edges: its masks, its bits, its number in the row.
+pub record ModalDone (E : List ℕ) (j : Job) (before after : List ℕ) (r : NodeAnswer) : Type 0 where
+  pub masks : List ℕ
+  pub small : j .given < 65536
+  pub reaching :
+      let want = eqb (j .line .kind) letterD in
+      Reaching E (record { accepting = j .automaton .accepting; node = record { 0 = j .line .b }; want = want; exits = facingMask (j .given) want }) before masks
+  pub added : Added (j .number .0) (λ i. facing (eqb (j .line .kind) letterD) (bit (at masks i) (j .automaton .start .0))) (length before) before after (r .held)
+  pub number : r .number ≡ rowNumber j (eqb (j .line .kind) letterD) masks
+
+-- The first n edges as numbers.
+pub record Packed (t : Table) (n : ℕ) (edges : List ℕ) : Type 0 where
+  pub room : n ≤ length edges
+  pub edge-is : (e : ℕ) → e < n → at edges e ≡ packedOf (edgeAt t e)
+
+-- The words of the nodes below k.
+pub record Words (S : Sheet) (ρ : Bits) (log : List ℕ) (k : ℕ) (words : List ℕ) : Type 0 where
+  pub size : length words ≡ length log
+  pub each : (i : ℕ) → i < length log → at words i ≡ packBits k (λ j. judge S log ρ (suc j) j i)
+
+-- The numbers f 0, f 1, .. stand in the first k places of an array of 64, and 0 in the others.
+pub record Filled (f : ℕ → ℕ) (out : List ℕ) (k : ℕ) : Type 0 where
+  pub size : length out ≡ nodeLimit
+  pub done : (j : ℕ) → j < k → getD out j 0 ≡ f j
+  pub left : (j : ℕ) → k ≤ j → getD out j 0 ≡ 0
+
+-- At how many entries the last of the first k nodes holds.
+abbrev pub heldAfter : Sheet → Bits → List ℕ → ℕ → ℕ
+heldAfter S ρ log zero = 0
+heldAfter S ρ log (suc k) = countBelow (length log) (λ i. judge S log ρ (suc k) k i)
+
+-- What is known where a node is judged.
+pub record Known (t : Table) (row : Row) (j : Job) (log edges words : List ℕ) : Type 0 where
+  pub facts : TableFacts t
+  pub in-table : j .number .0 < t .used .nodes
+  pub line-is : j .line ≡ nodeAt t (j .number .0)
+  pub automaton-is : modalKind (j .line .kind) ≡ true → j .automaton ≡ automatonAt t (j .line .a)
+  pub given-is : j .given ≡ getD (row .bits) (j .number .0) 0
+  pub packed : Packed t (t .used .edges) edges
+  pub words-are : Words (sheetOf t) (bitsOf row) log (j .number .0) words
+
+-- A node is judged.
+pub record NodeDone (t : Table) (row : Row) (j : Job) (log words : List ℕ) (r : NodeAnswer) : Type 0 where
+  pub held-is : r .held ≡ heldAfter (sheetOf t) (bitsOf row) log (j .number .0 + 1)
+  pub words-are : Words (sheetOf t) (bitsOf row) log (j .number .0 + 1) words
+  pub row-is : r .number ≡ packBits stateLimit (λ s. rowOf (j .way) (sheetOf t) log (bitsOf row) (j .number .0) s)
+
+-- All nodes are judged.
+pub record CoreDone (p : Part) (log words : List ℕ) (r : CoreAnswer) : Type 0 where
+  pub row-is : r .row ≡ packRow (rowOf (p .way) (sheetOf (p .table)) log (bitsOf (p .row)))
+  pub words-are : words ≡ partWords (sheetOf (p .table)) (bitsOf (p .row)) log
+  pub held-is : r .held ≡ heldAfter (sheetOf (p .table)) (bitsOf (p .row)) log (p .table .used .nodes)

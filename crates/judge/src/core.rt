@@ -1,0 +1,123 @@
+// One core for whole logs and parts: node by node, the words of all entries, the row and the count held.
+use super::lines::is_modal;
+use super::nodes::Job;
+use super::nodes::judge_node;
+use aldlf::Node;
+use aldlf::NodeLine;
+use aldlf::Row;
+use aldlf::Table;
+use aldlf::Way;
+ghost use mathlib.Core.Path.{_≡_};
+ghost use mathlib.Core.Bool.{true, false};
+ghost use Prim.Native.Nat.{ℕ, _≤_, _<_};
+ghost use lib.ListN.{length};
+ghost use Rattle.aldlf.specs.Constants.{entryLimit, edgeLimit};
+ghost use Rattle.aldlf.specs.Sheet.{sheetOf};
+ghost use Rattle.sheet.specs.Facts.{TableFacts};
+ghost use Rattle.reach.specs.Marks.{at};
+ghost use Rattle.judge.specs.Nodes.{Packed, CoreDone, modalKind};
+
+// A log or a part to judge: the table, the way that parts are cut, and the row of the entry beside it.
+pub(crate) struct Part {
+    pub(crate) table: Table,
+    pub(crate) way: Way,
+    pub(crate) row: Row,
+}
+
+// The row that a part gives, and at how many entries the last node holds.
+pub(crate) struct CoreAnswer {
+    pub(crate) row: Row,
+    pub(crate) held: usize,
+}
+
+// The verdict words of a log or a part, the row that it gives and the count held.
+// Edges are packed once, so that no table is copied for an entry; scratch is lent only as long as the log.
+pub(crate) fn judge_core(part: Part, log: &[u32], words: &mut [u64]) -> CoreAnswer
+    requires { ⌜ TableFacts (part .table) ⌝ }
+    requires { ⌜ (length (now words) ≡ length (now log)) × (length (now log) ≤ entryLimit) ⌝ }
+    ensures { λ r. ⌜ CoreDone part (now (log .entry)) (now (words .exit)) r ⌝ }
+{
+    let mut edges = [0u32; aldlf::EDGES];
+    let mut masks = [0u16; aldlf::ENTRIES];
+    let mut todo = [0u16; aldlf::ENTRIES];
+    let table = part.table;
+    pack_edges(table, &mut edges);
+    let n = log.len();
+    judge_nodes(part, log, &edges, words, &mut masks[..n], &mut todo[..n])
+}
+
+// The nodes in order, each from the words of those before it.
+fn judge_nodes(
+    part: Part,
+    log: &[u32],
+    edges: &[u32],
+    words: &mut [u64],
+    masks: &mut [u16],
+    todo: &mut [u16],
+) -> CoreAnswer
+    requires { ⌜ TableFacts (part .table) ⌝ }
+    requires { ⌜ Packed (part .table) (part .table .used .edges) (now edges) ⌝ }
+    requires { ⌜ (length (now words) ≡ length (now log)) × (length (now masks) ≡ length (now log)) × (length (now todo) ≡ length (now log)) ⌝ }
+    ensures { λ r. ⌜ CoreDone part (now (log .entry)) (now (words .exit)) r ⌝ }
+{
+    clear(words);
+    let mut out = [0u16; aldlf::NODES];
+    let mut held: usize = 0;
+    let table = part.table;
+    let row = part.row;
+    let way = part.way;
+    let count = table.used.nodes;
+    let mut k: u8 = 0;
+    while k < count {
+        let line = table.nodes[k as usize];
+        let m = automaton_number(line);
+        let automaton = table.automata[m as usize];
+        let job = Job {
+            number: Node(k),
+            line,
+            automaton,
+            given: row.bits[k as usize],
+            way,
+        };
+        let a = judge_node(job, log, edges, words, masks, todo);
+        out[k as usize] = a.number;
+        held = a.held;
+        k += 1;
+    }
+    CoreAnswer {
+        row: Row { bits: out },
+        held,
+    }
+}
+
+// The automaton of a D or B line; 0 for another.
+pub(crate) fn automaton_number(line: NodeLine) -> u8
+    ensures { λ r. ⌜ ((modalKind (line .kind) ≡ true → r ≡ line .a) × (modalKind (line .kind) ≡ false → r ≡ 0)) ⌝ }
+{
+    if is_modal(line.kind) { line.a } else { 0 }
+}
+
+// The table's edges as numbers.
+fn pack_edges(table: Table, edges: &mut [u32])
+    requires { ⌜ (table .used .edges ≤ length (now edges)) × (table .used .edges ≤ edgeLimit) ⌝ }
+    ensures { λ _. ⌜ Packed table (table .used .edges) (now (edges .exit)) ⌝ }
+{
+    let count = table.used.edges;
+    let mut e: u16 = 0;
+    while e < count {
+        let x = table.edges[e as usize];
+        edges[e as usize] = reach::packed(x);
+        e += 1;
+    }
+}
+
+// All words 0.
+fn clear(words: &mut [u64])
+    ensures { λ _. ⌜ ((i : ℕ) → i < length (now (words .entry)) → at (now (words .exit)) i ≡ 0) ⌝ }
+{
+    let mut i: usize = 0;
+    while i < words.len() {
+        words[i] = 0;
+        i += 1;
+    }
+}

@@ -1,0 +1,132 @@
+// One node at all entries: its bits added to the words, its number in the row, and the count of entries at which it holds.
+use super::lines::is_modal;
+use super::lines::plain_line;
+use super::rows::facing_mask;
+use super::rows::row_number;
+use aldlf::Automaton;
+use aldlf::Node;
+use aldlf::NodeLine;
+use aldlf::Way;
+use reach::Goal;
+ghost use mathlib.Core.Path.{_≡_};
+ghost use mathlib.Core.List.{List};
+ghost use Prim.Native.Nat.{ℕ, _+_, _^_, _<_};
+ghost use lib.ListN.{length};
+ghost use Rattle.aldlf.specs.Constants.{nodeLimit};
+ghost use Rattle.aldlf.specs.Sheet.{lineOf, «bit» as bitOf};
+ghost use Rattle.aldlf.specs.Verdict.{facing};
+ghost use Rattle.aldlf.specs.Outcomes.{one};
+ghost use Rattle.aldlf.specs.declared.Table.{Table};
+ghost use Rattle.aldlf.specs.declared.Row.{Row};
+ghost use Rattle.reach.specs.Marks.{at, EdgesFit};
+ghost use Rattle.judge.specs.Nodes.{saysNow, PlainFits, Added, ModalFits, ModalDone, Known, NodeDone};
+
+// A node to judge: its number and line, the automaton that its line names if it is a D or B, its number in the row that is
+// given, and the way that parts are cut.
+pub(crate) struct Job {
+    pub(crate) number: Node,
+    pub(crate) line: NodeLine,
+    pub(crate) automaton: Automaton,
+    pub(crate) given: u16,
+    pub(crate) way: Way,
+}
+
+// A node's number in the row that the part gives, and at how many entries it holds.
+pub(crate) struct NodeAnswer {
+    pub(crate) number: u16,
+    pub(crate) held: usize,
+}
+
+// The node judged from the words of the nodes before it.
+pub(crate) fn judge_node(
+    job: Job,
+    log: &[u32],
+    edges: &[u32],
+    words: &mut [u64],
+    masks: &mut [u16],
+    todo: &mut [u16],
+) -> NodeAnswer
+    requires { ⌜ ((t : Table) × (row : Row) × Known t row job (now log) (now edges) (now words)) ⌝ }
+    requires { ⌜ (length (now masks) ≡ length (now log)) × (length (now todo) ≡ length (now log)) ⌝ }
+    ensures { λ r. ⌜ ((t : Table) (row : Row) → Known t row job (now (log .entry)) (now (edges .entry)) (now (words .entry)) → NodeDone t row job (now (log .entry)) (now (words .exit)) r) ⌝ }
+{
+    let line = job.line;
+    if !is_modal(line.kind) {
+        let held = judge_plain(line, job.number, log, words);
+        return NodeAnswer { number: 0, held };
+    }
+    let first = job.automaton.first as usize;
+    let last = first + (job.automaton.count as usize);
+    judge_modal(job, &edges[first..last], words, masks, todo)
+}
+
+// A line that is no D or B.
+fn judge_plain(line: NodeLine, number: Node, log: &[u32], words: &mut [u64]) -> usize
+    requires { ⌜ PlainFits line ⌝ }
+    requires { ⌜ (number .0 < nodeLimit) × (length (now words) ≡ length (now log)) × ((i : ℕ) → i < length (now words) → at (now words) i < 2 ^ number .0) ⌝ }
+    ensures { λ r. ⌜ Added (number .0) (λ i. saysNow (lineOf (line .kind) (line .a) (line .b)) (at (now (log .entry)) i) (at (now (words .entry)) i)) (length (now (words .entry))) (now (words .entry)) (now (words .exit)) r ⌝ }
+{
+    let n = log.len();
+    let mut held: usize = 0;
+    let mut i: usize = 0;
+    while i < n {
+        let w = words[i];
+        let on = plain_line(line, log[i], w);
+        words[i] = reach::with_verdict(w, number, on);
+        held = counted(held, on);
+        i += 1;
+    }
+    held
+}
+
+// A D or B line. The edges are those of its automaton.
+fn judge_modal(
+    job: Job,
+    edges: &[u32],
+    words: &mut [u64],
+    masks: &mut [u16],
+    todo: &mut [u16],
+) -> NodeAnswer
+    requires { ⌜ EdgesFit (now edges) ⌝ }
+    requires { ⌜ ModalFits job ⌝ }
+    requires { ⌜ (length (now masks) ≡ length (now words)) × (length (now todo) ≡ length (now words)) × ((i : ℕ) → i < length (now words) → at (now words) i < 2 ^ job .number .0) ⌝ }
+    ensures { λ r. ⌜ ModalDone (now (edges .entry)) job (now (words .entry)) (now (words .exit)) r ⌝ }
+{
+    let want = job.line.kind == b'D';
+    let goal = Goal {
+        accepting: job.automaton.accepting,
+        node: Node(job.line.b),
+        want,
+        exits: facing_mask(job.given, want),
+    };
+    reach::mark(goal, edges, &*words, masks, todo);
+    let held = write_modal(job, want, &*masks, words);
+    let number = row_number(job, want, &*masks);
+    NodeAnswer { number, held }
+}
+
+// A D or B node's bits, from the masks at its automaton's start.
+fn write_modal(job: Job, want: bool, masks: &[u16], words: &mut [u64]) -> usize
+    requires { ⌜ (job .automaton .start .0 < 64) × (job .number .0 < nodeLimit) × (length (now words) ≡ length (now masks)) × ((i : ℕ) → i < length (now words) → at (now words) i < 2 ^ job .number .0) ⌝ }
+    ensures { λ r. ⌜ Added (job .number .0) (λ i. facing want (bitOf (at (now (masks .entry)) i) (job .automaton .start .0))) (length (now (words .entry))) (now (words .entry)) (now (words .exit)) r ⌝ }
+{
+    let n = masks.len();
+    let mut held: usize = 0;
+    let mut i: usize = 0;
+    while i < n {
+        let x = masks[i] as u64;
+        let on = reach::facing(want, reach::bit(x, job.automaton.start.0));
+        words[i] = reach::with_verdict(words[i], job.number, on);
+        held = counted(held, on);
+        i += 1;
+    }
+    held
+}
+
+// One more where it is on.
+fn counted(held: usize, on: bool) -> usize
+    requires { ⌜ held + 1 < 2 ^ 64 ⌝ }
+    ensures { λ r. ⌜ r ≡ one on + held ⌝ }
+{
+    if on { held + 1 } else { held }
+}

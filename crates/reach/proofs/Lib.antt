@@ -1,0 +1,5 @@
+pub mod Masks
+pub mod Closure
+pub mod Marking
+pub mod Turns
+pub mod Goals

@@ -1,0 +1,106 @@
+// Marks, for each entry of a log or a part, the states from which a walk of an automaton reaches a goal or an exit.
+// One code for whole logs (no exits) and for parts (exits by the row beside them), for D and for B, and for both directions.
+mod closing;
+mod sweeping;
+
+use aldlf::Edge;
+use aldlf::Node;
+use sweeping::spread;
+ghost use mathlib.Core.Path.{_≡_};
+ghost use Prim.Native.Nat.{_+_, _^_, _<_};
+ghost use lib.ListN.{length};
+ghost use Rattle.aldlf.specs.Sheet.{«bit» as bitOf};
+ghost use Rattle.aldlf.specs.Verdict.{«facing» as facingOf};
+ghost use Rattle.aldlf.specs.Constants.{nodeLimit};
+ghost use Rattle.reach.specs.Marks.{pick, verdictIn, verdictAdded, packedOf, EdgesFit, Reaching};
+ghost use Rattle.reach.specs.Steps.{Seeded};
+
+// What a walk is to reach: an accepting state (a bit of `accepting`) at an entry where `node` holds (`want`) or fails, or,
+// by an edge that leaves the log or the part, a state of `exits`.
+pub struct Goal {
+    pub accepting: u16,
+    pub node: Node,
+    pub want: bool,
+    pub exits: u16,
+}
+
+// The configurations from which the goal is reached: for each entry a mask of states. `words` are the verdict words of the
+// nodes that edges test, `todo` is scratch of the same length. Internal: edges as `packed` makes them.
+pub fn mark(goal: Goal, edges: &[u32], words: &[u64], masks: &mut [u16], todo: &mut [u16])
+    requires { ⌜ EdgesFit (now edges) ⌝ }
+    requires { ⌜ (goal .node .0 < nodeLimit) × (length (now masks) ≡ length (now words)) × (length (now todo) ≡ length (now words)) ⌝ }
+    ensures { λ _. ⌜ Reaching (now (edges .entry)) goal (now (words .entry)) (now (masks .exit)) ⌝ }
+{
+    seed(goal, words, masks, todo);
+    spread(goal.exits, edges, words, masks, todo);
+}
+
+// An edge as one number, a byte for each field. Internal.
+pub fn packed(e: Edge) -> u32
+    ensures { λ r. ⌜ r ≡ packedOf e ⌝ }
+{
+    (e.from.0 as u32)
+        + 256 * (e.to.0 as u32)
+        + 65536 * (e.dir as u32)
+        + 16777216 * (e.test.0 as u32)
+}
+
+// The verdict on a node, from its entry's word. Internal: verdict words are read here and written by `with_verdict` alone.
+pub fn verdict(word: u64, node: Node) -> bool
+    requires { ⌜ node .0 < nodeLimit ⌝ }
+    ensures { λ r. ⌜ r ≡ verdictIn word (node .0) ⌝ }
+{
+    bit(word, node.0)
+}
+
+// The word of the nodes below `node`, with the verdict on it. Internal.
+pub fn with_verdict(word: u64, node: Node, on: bool) -> u64
+    requires { ⌜ (node .0 < nodeLimit) × (word < 2 ^ node .0) ⌝ }
+    ensures { λ r. ⌜ r ≡ verdictAdded word (node .0) on ⌝ }
+{
+    if on { with_bit(word, node.0) } else { word }
+}
+
+// Bit k of w. Internal.
+pub fn bit(w: u64, k: u8) -> bool
+    requires { ⌜ k < 64 ⌝ }
+    ensures { λ r. ⌜ r ≡ bitOf w k ⌝ }
+{
+    (w >> k) % 2 == 1
+}
+
+// w with bit k, which it has not yet. Internal.
+pub fn with_bit(w: u64, k: u8) -> u64
+    requires { ⌜ (k < 64) × (w + 2 ^ k < 2 ^ 64) ⌝ }
+    ensures { λ r. ⌜ r ≡ w + 2 ^ k ⌝ }
+{
+    w + (1 << k)
+}
+
+// A yes as it is, or turned round where it is not wanted. Internal.
+pub fn facing(want: bool, found: bool) -> bool
+    ensures { λ r. ⌜ r ≡ facingOf want found ⌝ }
+{
+    if want { found } else { !found }
+}
+
+// The accepting states where the node is as wanted; every entry is to be visited.
+fn seed(goal: Goal, words: &[u64], masks: &mut [u16], todo: &mut [u16])
+    requires { ⌜ (goal .node .0 < nodeLimit) × (length (now masks) ≡ length (now words)) × (length (now todo) ≡ length (now words)) ⌝ }
+    ensures { λ _. ⌜ Seeded goal (now (words .entry)) (length (now (words .entry))) (now (masks .exit)) (now (todo .exit)) ⌝ }
+{
+    let mut i: usize = 0;
+    while i < words.len() {
+        let found = verdict(words[i], goal.node);
+        masks[i] = goal_mask(goal.accepting, facing(goal.want, found));
+        todo[i] = 1;
+        i += 1;
+    }
+}
+
+// All accepting states, or none.
+fn goal_mask(accepting: u16, on: bool) -> u16
+    ensures { λ r. ⌜ r ≡ pick on accepting 0 ⌝ }
+{
+    if on { accepting } else { 0 }
+}
