@@ -3,7 +3,6 @@ use Prim.Native.Nat.{ℕ, zero, suc}
 use mathlib.Core.Path.{_≡_, refl}
 use mathlib.Core.Bool.{Bool, true, false}
 use mathlib.Core.List.{List, [], _∷_}
-use mathlib.Core.Option.{some}
 use lib.ListN.{length, replicate}
 use Rattle.aldlf.specs.Constants.{nodeLimit, automatonLimit, edgeLimit, letterT, letterF, letterP, letterN, letterO, letterD, letterB}
 use Rattle.aldlf.specs.Sheet.{sheetOf, noLine, noEdge, noAutomaton, bit}
@@ -96,20 +95,26 @@ pub data Job : Type 0 where
   refused : Table → (log : List ℕ) → (k i : ℕ) → (number : ℕ) → Job
   part : Table → Row → (words : List ℕ) → (k : ℕ) → List ℕ → (bit0 : Bool) → Job
 
-abbrev partOf : Table → Row → List ℕ → Part
-partOf t row words = partOutcome true Ahead (sheetOf t) row words (replicate (length words) 0)
+-- Right by the defined outcomes, where `given` answers question 31.
+module _ (given : Table → Bool) where
+  abbrev pub partOf : Table → Row → List ℕ → Part
+  partOf t row words = partOutcome (given t) Ahead (sheetOf t) row words (replicate (length words) 0)
 
-abbrev Right : Job → Type 0
-Right (verdicts t log k wanted) = column k (wholeOutcome true (sheetOf t) log (replicate (length log) 0) .buffer) ≡ wanted
-Right (walk t log k i wanted) = walkOf (sheetOf t) log k i ≡ some wanted
-Right (refused t log k i number) = walkOutcome true (sheetOf t) log k i [] .number ≡ number
-Right (part t row words k wanted bit0) = (column k (partOf t row words .buffer) ≡ wanted) × (bitsOf (partOf t row words .row) k 0 ≡ bit0)
+  abbrev pub Right : Job → Type 0
+  Right (verdicts t log k wanted) = column k (wholeOutcome (given t) (sheetOf t) log (replicate (length log) 0) .buffer) ≡ wanted
+  Right (walk t log k i wanted) = walkOutcome (given t) (sheetOf t) log k i (replicate (length wanted) 0) ≡ record { number = 0; count = length wanted; buffer = wanted }
+  Right (refused t log k i number) = walkOutcome (given t) (sheetOf t) log k i [] ≡ record { number = number; count = 0; buffer = [] }
+  Right (part t row words k wanted bit0) = (column k (partOf t row words .buffer) ≡ wanted) × (bitsOf (partOf t row words .row) k 0 ≡ bit0)
 
-abbrev AllRight : List Job → Type 0
-AllRight [] = Unit {0}
-AllRight (j ∷ js) = Right j × AllRight js
+  abbrev pub AllRight : List Job → Type 0
+  AllRight [] = Unit {0}
+  AllRight (j ∷ js) = Right j × AllRight js
 
-abbrev jobs : List Job
+-- The row that a part of W gives.
+abbrev rowAfter : Row → List ℕ → Row
+rowAfter row words = partOf (λ t. true) W row words .row
+
+abbrev pub jobs : List Job
 jobs =
     verdicts W (f0 ∷ f1 ∷ f2 ∷ []) 2 (1 ∷ 1 ∷ 0 ∷ [])
     ∷ verdicts W (0 ∷ []) 2 (0 ∷ [])
@@ -127,12 +132,12 @@ jobs =
     ∷ walk W (f0 ∷ f1 ∷ f2 ∷ []) 2 0 (0 ∷ [])
     ∷ refused W (f0 ∷ f1 ∷ f2 ∷ []) 2 2 39
     ∷ part W (plainRow (sheetOf W)) (f2 ∷ []) 2 (0 ∷ []) false
-    ∷ part W (partOf W (plainRow (sheetOf W)) (f2 ∷ []) .row) (f0 ∷ f1 ∷ []) 2 (1 ∷ 1 ∷ []) true
+    ∷ part W (rowAfter (plainRow (sheetOf W)) (f2 ∷ [])) (f0 ∷ f1 ∷ []) 2 (1 ∷ 1 ∷ []) true
     ∷ part W (plainRow (sheetOf W)) (f1 ∷ f2 ∷ []) 2 (1 ∷ 0 ∷ []) true
-    ∷ part W (partOf W (plainRow (sheetOf W)) (f1 ∷ f2 ∷ []) .row) (f0 ∷ []) 2 (1 ∷ []) true
+    ∷ part W (rowAfter (plainRow (sheetOf W)) (f1 ∷ f2 ∷ [])) (f0 ∷ []) 2 (1 ∷ []) true
     ∷ []
 
-pub worked : AllRight jobs
+pub worked : AllRight (λ t. true) jobs
 unfolding sheetOf judge rowOf partWords wholeNumber wholeOutcome partNumber partOutcome walkIn walkOf walkNumber walkOutcome
 worked =
     (refl, (refl, (refl, (refl, (refl, (refl, (refl, (refl, (refl, (refl, (refl, (refl, (refl, (refl, (refl, ((refl, refl), ((refl, refl), ((refl, refl), ((refl, refl), tt)))))))))))))))))))
