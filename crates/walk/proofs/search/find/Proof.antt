@@ -1,0 +1,79 @@
+-- `find` meets its contract: either room is large enough. Assumes nothing.
+use Prim.Native.Nat.{ℕ, _≤_, _*_}
+use mathlib.Core.Path.{sym}
+use denote.Ref.{now}
+use lib.ListN.{length}
+use Rattle.walk.proofs.Room.{zeros-long}
+use Rattle.walk.proofs.Steps.{size-small}
+use borrow.Author.Needs.{needs}
+use native.Mathlib.Omega.{arith}
+use Rattle.walk.proofs.search.find.Statement.{statement}
+use Rattle.walk.proofs.search.find.Tie as tie
+
+-- as many configurations as there are
+abbrev size : tie.Start → ℕ
+size S = length (now (S .args .words)) * S .args .query .automaton .states
+
+small : (S : tie.Start) → size S ≤ 8192
+small S = size-small (now (S .args .edges)) (S .args .query .automaton) (now (S .args .words)) (S .pre .0)
+
+cast-states : tie.Need-cast-states
+cast-states c = search needs
+
+mul-size : tie.Need-mul-size
+mul-size c = omega (arith, small (c .before .before .before .before))
+
+array-borrow-prefix-dist : tie.Need-array-borrow-prefix-dist
+array-borrow-prefix-dist c = search needs
+
+slice-aggregate-search : tie.Need-slice-aggregate-search
+slice-aggregate-search c = let S = c .before .before .before .before .before .before in sym (zeros-long 512 (size S) (c .before .if1 .taken))
+
+slice-aggregate-search-2 : tie.Need-slice-aggregate-search-2
+slice-aggregate-search-2 c = search needs
+
+search-requires : tie.Need-search-requires
+search-requires c κs = let S = c .before .before .before .before .before .before .before .before in let z = zeros-long 512 (size S) (c .before .before .before .if1 .taken) in (S .pre .0, (S .pre .1, (z, omega (arith, c .before .before .before .if1 .taken))))
+
+same-length : tie.Need-same-length
+same-length c = search needs
+
+returns : tie.Need-returns
+returns c = search needs
+
+array-borrow-prefix-dist-2 : tie.Need-array-borrow-prefix-dist-2
+array-borrow-prefix-dist-2 c = small (c .before .before .before .before .before)
+
+slice-aggregate-search-3 : tie.Need-slice-aggregate-search-3
+slice-aggregate-search-3 c = let S = c .before .before .before .before .before .before in sym (zeros-long 8192 (size S) (small S))
+
+slice-aggregate-search-4 : tie.Need-slice-aggregate-search-4
+slice-aggregate-search-4 c = search needs
+
+search-requires-2 : tie.Need-search-requires-2
+search-requires-2 c κs = let S = c .before .before .before .before .before .before .before .before in let z = zeros-long 8192 (size S) (small S) in (S .pre .0, (S .pre .1, (z, omega (arith, small S))))
+
+same-length-2 : tie.Need-same-length-2
+same-length-2 c = search needs
+
+returns-2 : tie.Need-returns-2
+returns-2 c = search needs
+
+pub find-spec : {M : Type 1} → statement M
+find-spec =
+    tie.close
+    (tie.spec
+    cast-states
+    mul-size
+    array-borrow-prefix-dist
+    slice-aggregate-search
+    slice-aggregate-search-2
+    search-requires
+    same-length
+    returns
+    array-borrow-prefix-dist-2
+    slice-aggregate-search-3
+    slice-aggregate-search-4
+    search-requires-2
+    same-length-2
+    returns-2)

@@ -1,0 +1,4 @@
+pub mod Answer
+pub mod Graph
+pub mod Progress
+pub mod Configurations
