@@ -1,15 +1,15 @@
 -- What is known where a node is judged: what its code asks, the edges of its automaton, and the node done.
 use Prim.Native.Nat.{ℕ, _+_, _-_, _^_, _≤_, _<_}
 use native.Mathlib.Omega.{arith}
-use mathlib.Core.Path.{_≡_, refl, sym, subst, ap, _∙_}
+use mathlib.Core.Path.{_≡_, sym, subst, ap, _∙_}
 use mathlib.Core.Logic.{_⊎_, inl, inr}
-use mathlib.Core.Bool.{Bool, true, false, _&&_}
+use mathlib.Core.Bool.{Bool, true, false}
 use mathlib.Core.List.{List}
 use lib.Dec.{eqb}
 use lib.ListN.{getD, length, take, drop, set, length-set, length-drop}
 use lib.Seq.{getD-take, getD-drop, getD-set-same, getD-set-other, length-take-le}
 use borrow.Author.Tests.{eqb-true, eqb-false}
-use Rattle.aldlf.specs.Constants.{nodeLimit, stateLimit}
+use Rattle.aldlf.specs.Constants.{nodeLimit}
 use Rattle.aldlf.specs.Sheet.{sheetOf, lineOf}
 use Rattle.aldlf.specs.Verdict.{rowOf}
 use Rattle.aldlf.specs.Outcomes.{bitsOf}
@@ -22,7 +22,7 @@ use Rattle.sheet.specs.Facts.{nodeAt, automatonAt, edgeAt, AutomatonFacts}
 use Rattle.reach.specs.Marks.{at, packedOf, EdgesFit}
 use Rattle.judge.specs.declared.nodes.Job.{Job}
 use Rattle.judge.specs.declared.nodes.NodeAnswer.{NodeAnswer}
-use Rattle.judge.specs.Nodes.{modalKind, saysNow, PlainFits, Added, ModalFits, ModalDone, Packed, Words, Known, NodeDone}
+use Rattle.judge.specs.Nodes.{modalKind, saysNow, PlainFits, Added, ModalFits, ModalDone, Packed, Known, NodeDone}
 use Rattle.judge.proofs.Slices.{edges-fit, slice-reached}
 use Rattle.judge.proofs.WordLaws.{plain-of, plain-bits, words-low, added-words, added-count}
 use Rattle.judge.proofs.RowLaws.{inner, row-form, plain-number}

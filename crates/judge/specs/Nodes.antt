@@ -14,7 +14,7 @@ use Rattle.aldlf.specs.Outcomes.{packBits, countBelow, bitsOf, packRow, partWor
 use Rattle.aldlf.specs.declared.Table.{Table}
 use Rattle.aldlf.specs.declared.Row.{Row}
 use Rattle.aldlf.specs.declared.NodeLine.{NodeLine}
-use Rattle.sheet.specs.Facts.{nodeAt, automatonAt, edgeAt, NodeFacts, TableFacts}
+use Rattle.sheet.specs.Facts.{nodeAt, automatonAt, edgeAt, TableFacts}
 use Rattle.reach.specs.Marks.{at, pick, verdictIn, verdictAdded, packedOf, Reaching}
 use Rattle.judge.specs.declared.core.Part.{Part}
 use Rattle.judge.specs.declared.core.CoreAnswer.{CoreAnswer}

@@ -12,7 +12,6 @@ ghost use mathlib.Core.Bool.{true, false};
 ghost use Prim.Native.Nat.{ℕ, _≤_, _<_};
 ghost use lib.ListN.{length};
 ghost use Rattle.aldlf.specs.Constants.{entryLimit, edgeLimit};
-ghost use Rattle.aldlf.specs.Sheet.{sheetOf};
 ghost use Rattle.sheet.specs.Facts.{TableFacts};
 ghost use Rattle.reach.specs.Marks.{at};
 ghost use Rattle.judge.specs.Nodes.{Packed, CoreDone, modalKind};

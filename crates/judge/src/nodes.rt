@@ -9,7 +9,6 @@ use aldlf::NodeLine;
 use aldlf::Way;
 use reach::Goal;
 ghost use mathlib.Core.Path.{_≡_};
-ghost use mathlib.Core.List.{List};
 ghost use Prim.Native.Nat.{ℕ, _+_, _^_, _<_};
 ghost use lib.ListN.{length};
 ghost use Rattle.aldlf.specs.Constants.{nodeLimit};

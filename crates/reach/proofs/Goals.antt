@@ -1,5 +1,5 @@
 -- The seeds, and what the marks grown from them are: what is reached of the goal.
-use Prim.Native.Nat.{ℕ, _+_, _^_, _<_}
+use Prim.Native.Nat.{ℕ, _+_, _<_}
 use native.Mathlib.Omega.{arith}
 use mathlib.Core.Path.{_≡_, refl, sym, subst, ap, _∙_}
 use mathlib.Core.Logic.{_⊎_, inl, inr}
@@ -9,7 +9,6 @@ use lib.Dec.{eqb}
 use lib.ListN.{length, set}
 use lib.Seq.{getD-set-same, getD-set-other}
 use borrow.Author.Tests.{eqb-true, eqb-false}
-use Rattle.aldlf.specs.Constants.{stateLimit}
 use Rattle.aldlf.specs.Sheet.{bit}
 use Rattle.aldlf.specs.Verdict.{facing}
 use Rattle.aldlf.proofs.Bools.{bool-cases}

@@ -1,4 +1,4 @@
--- Helper definitions that only the proofs of the code need: one edge, one entry, one sweep, and what is known on the way.
+-- Helper definitions that only the proofs of the code need: one edge, one entry, one turn, and what is known on the way.
 use Prim.Native.Nat.{ℕ, _+_, _-_, _^_, _≤_, _<_}
 use mathlib.Core.Path.{_≡_}
 use mathlib.Core.Bool.{Bool, true, false, not}
@@ -10,7 +10,7 @@ use Rattle.aldlf.specs.Sheet.{bit}
 use Rattle.aldlf.specs.Verdict.{facing, reached}
 use Rattle.reach.specs.declared.Goal.{Goal}
 use Rattle.reach.specs.declared.closing.Around.{Around}
-use Rattle.reach.specs.declared.sweeping.Looks.{Looks}
+use Rattle.reach.specs.declared.spreading.Looks.{Looks}
 use Rattle.reach.specs.Marks.{at, pick, fromOf, toOf, dirIn, testOf, sliceSheet, holdsIn}
 
 -- The first answer where yes, the second where no.
@@ -104,18 +104,20 @@ pub record Seen (looks : Looks) (d : ℕ) (r : Looks) : Type 0 where
   pub is-back : 2 ≤ d → r .back ≡ true
   pub is-stay : d ≡ 0 → r .stay ≡ true
 
--- The flag of entry j is set, if it is `on` and there; no flag is cleared.
+-- The flag of entry j is set, if it is `on` and there; no other is set, and none is cleared.
 pub record Raised (on : Bool) (j : ℕ) (T T2 : List ℕ) : Type 0 where
   pub same : length T2 ≡ length T
   pub only : (k : ℕ) → at T2 k ≡ 0 → at T k ≡ 0
   pub hit : on ≡ true → j < length T → at T2 j ≡ 0 → ⊥
+  pub others : (k : ℕ) → ¬ (k ≡ j) → at T k ≡ 0 → at T2 k ≡ 0
 
--- The flags of the entries beside i are set, where edges go that way.
+-- The flags of the entries beside i are set, where edges go that way, and no others.
 pub record Touched (looks : Looks) (i : ℕ) (T T2 : List ℕ) : Type 0 where
   pub same : length T2 ≡ length T
   pub only : (j : ℕ) → at T2 j ≡ 0 → at T j ≡ 0
   pub before : looks .ahead ≡ true → (j : ℕ) → j + 1 ≡ i → at T2 j ≡ 0 → ⊥
   pub after : looks .back ≡ true → i + 1 < length T → at T2 (i + 1) ≡ 0 → ⊥
+  pub others : (j : ℕ) → ¬ (j + 1 ≡ i) → ¬ (j ≡ i + 1) → at T j ≡ 0 → at T2 j ≡ 0
 
 -- What is reached from state s at entry i, where the goals are those of the seeds.
 unfoldable pub reachedFrom : List ℕ → (exits : ℕ) → (words seeds : List ℕ) → ℕ → ℕ → Bool
@@ -136,31 +138,25 @@ abbrev pub sum : List ℕ → ℕ
 sum [] = 0
 sum (x ∷ l) = x + sum l
 
--- After entry i's turn.
+-- After entry i's turn: only the entries beside it may be flagged anew, and they only after a change.
 pub record Turned (E : List ℕ) (exits : ℕ) (words : List ℕ) (i : ℕ) (M T M2 T2 : List ℕ) (changed : Bool) : Type 0 where
   pub marking : (seeds : List ℕ) → Marking E exits words seeds M T → Marking E exits words seeds M2 T2
-  pub cleared : changed ≡ false → (j : ℕ) → at T j ≡ 0 → at T2 j ≡ 0
+  pub cleared : (j : ℕ) → (changed ≡ true → ¬ (j + 1 ≡ i) × ¬ (j ≡ i + 1)) → at T j ≡ 0 → at T2 j ≡ 0
   pub done : changed ≡ false → at T2 i ≡ 0
   pub grows : sum M ≤ sum M2
   pub more : changed ≡ true → sum M < sum M2
 
--- The j-th entry of a sweep over n.
+-- The entry at place j of n: from the first up, or from the last down.
 abbrev pub placeOf : Bool → (n j : ℕ) → ℕ
 placeOf up n j = pick up j (n - 1 - j)
 
--- A sweep on the way: the first j places are passed.
-pub record Sweeping (E : List ℕ) (exits : ℕ) (words : List ℕ) (up : Bool) (j : ℕ) (M T M2 T2 : List ℕ) (again : Bool) : Type 0 where
-  pub marking : (seeds : List ℕ) → Marking E exits words seeds M T → Marking E exits words seeds M2 T2
-  pub done : again ≡ false → (k : ℕ) → k < j → at T2 (placeOf up (length words) k) ≡ 0
-  pub grows : sum M ≤ sum M2
-  pub more : again ≡ true → sum M < sum M2
+-- The place after a turn at place j.
+abbrev pub nextOf : (changed : Bool) → (j : ℕ) → ℕ
+nextOf changed j = pick changed (j - 1) (j + 1)
 
--- After a sweep.
-pub record Swept (E : List ℕ) (exits : ℕ) (words M T M2 T2 : List ℕ) (again : Bool) : Type 0 where
-  pub marking : (seeds : List ℕ) → Marking E exits words seeds M T → Marking E exits words seeds M2 T2
-  pub done : again ≡ false → (j : ℕ) → j < length words → at T2 j ≡ 0
-  pub grows : sum M ≤ sum M2
-  pub more : again ≡ true → sum M < sum M2
+-- No entry at a place before j is to be visited.
+abbrev pub Clear : (up : Bool) → (n j : ℕ) → List ℕ → Type 0
+Clear up n j T = (k : ℕ) → k < j → at T (placeOf up n k) ≡ 0
 
 -- The masks are what is reached from the seeds.
 pub record Marked (E : List ℕ) (exits : ℕ) (words seeds M : List ℕ) : Type 0 where

@@ -5,10 +5,10 @@ use super::with_bit;
 use aldlf::Node;
 ghost use mathlib.Core.Path.{_≡_};
 ghost use mathlib.Core.Bool.{false};
-ghost use Prim.Native.Nat.{ℕ, _^_, _<_};
+ghost use Prim.Native.Nat.{_^_, _<_};
 ghost use lib.ListN.{length};
 ghost use Rattle.aldlf.specs.Constants.{stateLimit};
-ghost use Rattle.reach.specs.Marks.{at, dirIn, EdgeFits, EdgesFit};
+ghost use Rattle.reach.specs.Marks.{at, EdgeFits, EdgesFit};
 ghost use Rattle.reach.specs.Steps.{sideOf, taken, Passed, Closed, Stays};
 
 // What an entry is closed from: its verdict word, and the masks of the entries ahead of it and behind it.

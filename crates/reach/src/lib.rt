@@ -1,11 +1,11 @@
 // Marks, for each entry of a log or a part, the states from which a walk of an automaton reaches a goal or an exit.
 // One code for whole logs (no exits) and for parts (exits by the row beside them), for D and for B, and for both directions.
 mod closing;
-mod sweeping;
+mod spreading;
 
 use aldlf::Edge;
 use aldlf::Node;
-use sweeping::spread;
+use spreading::spread;
 ghost use mathlib.Core.Path.{_≡_};
 ghost use Prim.Native.Nat.{_+_, _^_, _<_};
 ghost use lib.ListN.{length};

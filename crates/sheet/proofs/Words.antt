@@ -1,7 +1,7 @@
 -- Words of bits: which are below a power of two, and what stays so with one bit more.
 use Prim.Native.Nat.{ℕ, suc, _+_, _*_, _-_, _/_, _%_, _^_, _≤_, _<_}
 use mathlib.Core.Path.{_≡_, ap, _∙_}
-use mathlib.Core.Bool.{Bool, true, false}
+use mathlib.Core.Bool.{false}
 use mathlib.Core.Logic.{_⊎_, inl, inr}
 use native.Mathlib.Nat.{div-eq-of-lt, div-lt-iff-lt-mul, mul-le-mul-right, add-mul, pow-suc}
 use native.Mathlib.Omega.{arith}

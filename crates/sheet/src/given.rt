@@ -9,7 +9,7 @@ use aldlf::Table;
 use aldlf::Used;
 ghost use mathlib.Core.Path.{_≡_};
 ghost use Prim.Native.Nat.{_+_, _^_, _≤_};
-ghost use lib.Dec.{ltb, eqb};
+ghost use lib.Dec.{ltb};
 ghost use Rattle.aldlf.specs.Constants.{stateLimit, edgeLimit};
 ghost use Rattle.sheet.specs.Questions.{plains};
 ghost use Rattle.sheet.specs.Given.{wellFormed, usedFits, nodeFits, nodesFit, headFits, edgeFits, edgesFit, automataFit, isNoLine, isNoAutomaton, isNoEdge, nodesEnd, automataEnd, edgesEnd, allOwned};

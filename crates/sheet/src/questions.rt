@@ -6,7 +6,7 @@ use aldlf::NodeLine;
 use aldlf::Table;
 use aldlf::Used;
 ghost use mathlib.Core.Path.{_≡_};
-ghost use mathlib.Core.Bool.{Bool, true, false, not};
+ghost use mathlib.Core.Bool.{true, false, not};
 ghost use Prim.Native.Nat.{_≤_};
 ghost use lib.ListN.{getD};
 ghost use Rattle.aldlf.specs.Constants.{automatonLimit};

@@ -4,8 +4,8 @@ use borrow.Author.Needs.{needs}
 use borrow.Author.Tests.{eq-eqb, ne-eqb}
 use mathlib.Core.Path.{refl}
 use native.Mathlib.Omega.{arith}
-use Rattle.reach.proofs.sweeping.behind_of.Statement.{statement}
-use Rattle.reach.proofs.sweeping.behind_of.Tie as tie
+use Rattle.reach.proofs.spreading.behind_of.Statement.{statement}
+use Rattle.reach.proofs.spreading.behind_of.Tie as tie
 
 sub-result : tie.Need-sub-result
 sub-result c = search needs

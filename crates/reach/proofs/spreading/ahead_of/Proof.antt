@@ -4,8 +4,8 @@ use borrow.Author.Needs.{needs}
 use borrow.Author.Tests.{le-ltb, lt-ltb}
 use mathlib.Core.Path.{refl}
 use native.Mathlib.Omega.{arith}
-use Rattle.reach.proofs.sweeping.ahead_of.Statement.{statement}
-use Rattle.reach.proofs.sweeping.ahead_of.Tie as tie
+use Rattle.reach.proofs.spreading.ahead_of.Statement.{statement}
+use Rattle.reach.proofs.spreading.ahead_of.Tie as tie
 
 add-if1 : tie.Need-add-if1
 add-if1 c = search needs

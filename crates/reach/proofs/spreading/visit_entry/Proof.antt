@@ -6,8 +6,8 @@ use Rattle.reach.specs.Steps.{Closed}
 use borrow.Author.Needs.{needs}
 use denote.Ref.{now}
 use mathlib.Core.Path.{refl, subst₂}
-use Rattle.reach.proofs.sweeping.visit_entry.Statement.{statement}
-use Rattle.reach.proofs.sweeping.visit_entry.Tie as tie
+use Rattle.reach.proofs.spreading.visit_entry.Statement.{statement}
+use Rattle.reach.proofs.spreading.visit_entry.Tie as tie
 
 mul-close : tie.Need-mul-close
 mul-close c = search needs

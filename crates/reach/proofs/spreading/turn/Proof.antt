@@ -6,8 +6,8 @@ use denote.Ref.{now}
 use lib.ListN.{length, length-set}
 use mathlib.Core.Path.{_∙_}
 use native.Mathlib.Omega.{arith}
-use Rattle.reach.proofs.sweeping.turn.Statement.{statement}
-use Rattle.reach.proofs.sweeping.turn.Tie as tie
+use Rattle.reach.proofs.spreading.turn.Statement.{statement}
+use Rattle.reach.proofs.spreading.turn.Tie as tie
 
 in-todo : (S : tie.Start) → S .args .v .entry < length (now (S .args .todo))
 in-todo S = let K = S .pre .1 .1 .1 .1 in omega (arith, K .room, S .pre .1 .1 .0)

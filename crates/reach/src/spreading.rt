@@ -1,13 +1,13 @@
-// All entries: sweeps up and down over those that are to be visited, until no mask changes.
+// All entries: a cursor goes over those that are to be visited, and steps back after each change of a mask.
 use super::closing::Around;
 use super::closing::close;
 ghost use mathlib.Core.Path.{_≡_};
 ghost use mathlib.Core.List.{List};
-ghost use Prim.Native.Nat.{ℕ, _^_, _<_};
+ghost use Prim.Native.Nat.{ℕ, _+_, _^_, _<_};
 ghost use lib.ListN.{length};
 ghost use Rattle.aldlf.specs.Constants.{stateLimit};
 ghost use Rattle.reach.specs.Marks.{at, EdgesFit};
-ghost use Rattle.reach.specs.Steps.{aheadOf, behindOf, placeOf, Told, Seen, Raised, Touched, Visited, Marking, Turned, Swept, Marked};
+ghost use Rattle.reach.specs.Steps.{aheadOf, behindOf, placeOf, nextOf, Told, Seen, Raised, Touched, Visited, Marking, Turned, Marked};
 
 // Which ways an automaton's edges go, and whether some stay at their entry.
 pub(crate) struct Looks {
@@ -23,63 +23,41 @@ pub(crate) struct Visit {
     pub(crate) entry: usize,
 }
 
-// A sweep over all entries, up from the first or down from the last.
-pub(crate) struct Sweep {
-    pub(crate) exits: u16,
-    pub(crate) looks: Looks,
-    pub(crate) up: bool,
-}
-
-// The masks grown from their seeds to all that is reached. The first sweep goes against the edges, so that a log whose edges
-// go one way is done in one.
+// The masks grown from their seeds to all that is reached. The places go against the edges, so that where all edges go one
+// way each entry is visited once.
 pub(crate) fn spread(exits: u16, edges: &[u32], words: &[u64], masks: &mut [u16], todo: &mut [u16])
     requires { ⌜ EdgesFit (now edges) ⌝ }
     requires { ⌜ (length (now masks) ≡ length (now words)) × (length (now todo) ≡ length (now words)) × ((i : ℕ) → i < length (now words) → (at (now masks) i < 2 ^ stateLimit) × (at (now todo) i ≡ 1)) ⌝ }
     ensures { λ _. ⌜ Marked (now (edges .entry)) exits (now (words .entry)) (now (masks .entry)) (now (masks .exit)) ⌝ }
 {
     let looks = looks_of(edges);
-    let mut up = !looks.ahead;
-    let mut again = true;
-    while again {
-        let s = Sweep { exits, looks, up };
-        again = sweep_entries(s, edges, words, masks, todo);
-        up = !up;
-    }
-}
-
-// Each entry that is to be visited, visited; whether a mask changed.
-fn sweep_entries(
-    s: Sweep,
-    edges: &[u32],
-    words: &[u64],
-    masks: &mut [u16],
-    todo: &mut [u16],
-) -> bool
-    requires { ⌜ EdgesFit (now edges) ⌝ }
-    requires { ⌜ Told (now edges) (s .looks) (length (now edges)) ⌝ }
-    requires { ⌜ ((seeds : List ℕ) × Marking (now edges) (s .exits) (now words) seeds (now masks) (now todo)) ⌝ }
-    ensures { λ r. ⌜ Swept (now (edges .entry)) (s .exits) (now (words .entry)) (now (masks .entry)) (now (todo .entry)) (now (masks .exit)) (now (todo .exit)) r ⌝ }
-{
+    let up = !looks.ahead;
     let n = words.len();
-    let looks = s.looks;
-    let mut again = false;
+    // the places before `j`, in the order of `up`, are not to be visited
     let mut j: usize = 0;
     while j < n {
         let v = Visit {
-            exits: s.exits,
+            exits,
             looks,
-            entry: place(s.up, n, j),
+            entry: place(up, n, j),
         };
         let changed = turn(v, edges, words, masks, todo);
-        if changed {
-            again = true;
-        }
-        j += 1;
+        j = next_place(changed, j);
     }
-    again
 }
 
-// The j-th entry of a sweep over n.
+// The place to go to from place j: after a change the one passed before, which may have to be visited again.
+fn next_place(changed: bool, j: usize) -> usize
+    requires { ⌜ j + 1 < 2 ^ 64 ⌝ }
+    ensures { λ r. ⌜ r ≡ nextOf changed j ⌝ }
+{
+    if !changed {
+        return j + 1;
+    }
+    if j == 0 { 0 } else { j - 1 }
+}
+
+// The entry at place j of n: from the first up, or from the last down.
 fn place(up: bool, n: usize, j: usize) -> usize
     requires { ⌜ j < n ⌝ }
     ensures { λ r. ⌜ r ≡ placeOf up n j ⌝ }
