@@ -1,4 +1,6 @@
 pub mod Held
+pub mod Parts
+pub mod Reading
 pub mod LineFacts
 pub mod Words
 pub mod Places

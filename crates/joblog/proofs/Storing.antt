@@ -10,10 +10,11 @@ use lib.Seq.{drop-cons, drop-drop, getD-drop, set-at, append-snoc, take-suc, tak
 use lib.Dec.{ltb, eqb}
 use Rattle.aldlf.specs.Constants.{entryLimit}
 use Rattle.text.specs.Text.{lines, lineAt}
-use Rattle.text.proofs.Lines.{lines-end, lines-at}
-use Rattle.joblog.specs.declared.facts.Facts.{Facts}
+use Rattle.text.proofs.Lines.{lines-end}
 use Rattle.joblog.specs.Log.{LogRead, entries, refused, choose, after, readLines, questionOf, wordIn, factsOf}
+use Rattle.joblog.specs.Reader.{nextStart}
 use Rattle.joblog.specs.Steps.{wordsOf, Fitting}
+use Rattle.joblog.proofs.Places.{lines-next}
 
 after-entries : (w : ℕ) (r : LogRead) (ws : List ℕ) → after w r ≡ entries ws → (ws ≡ w ∷ drop 1 ws) × (r ≡ entries (drop 1 ws))
 after-entries w (entries vs) ws e = let p : w ∷ vs ≡ ws = cc in rw (← p) (refl, refl)
@@ -60,21 +61,21 @@ stored-end text ws old new at k h s =
     s .is ∙ rw (n, take-all (length ws) ws (omega arith))
 
 -- a line before the text's end gives the next word
-module _ (text ws old new line : List ℕ) (at k : ℕ) (f : Facts) (w : ℕ) (s : Stored text ws old new at k) (h : at < length text) (e : line ≡ lineAt text at) where
-  split : (drop k ws ≡ wordIn (factsOf line) ∷ drop 1 (drop k ws)) × (readLines (k + 1) (lines (drop (at + length line + 1) text)) ≡ entries (drop 1 (drop k ws)))
-  split = first-word k line (lines (drop (at + length line + 1) text)) (drop k ws) (sym (ap (readLines k) (lines-at text at line h e)) ∙ s .rest)
+module _ (text ws old new : List ℕ) (at k w : ℕ) (s : Stored text ws old new at k) (h : at < length text) where
+  split : (drop k ws ≡ wordIn (factsOf (lineAt text at)) ∷ drop 1 (drop k ws)) × (readLines (k + 1) (lines (drop (nextStart text at) text)) ≡ entries (drop 1 (drop k ws)))
+  split = first-word k (lineAt text at) (lines (drop (nextStart text at) text)) (drop k ws) (sym (ap (readLines k) (lines-next text at h)) ∙ s .rest)
 
-  pub word-left : k < length ws
+  word-left : k < length ws
   word-left = omega (arith, ap length (split .0), length-drop k ws, s .k≤)
 
   pub place-left : k < length new
   place-left = omega (arith, word-left, s .room≤, s .size)
 
-  pub stored-next : f ≡ factsOf line → w ≡ wordIn f → Stored text ws old (set new k w) (at + length line + 1) (k + 1)
-  stored-next ef ew =
+  pub stored-next : w ≡ wordIn (factsOf (lineAt text at)) → Stored text ws old (set new k w) (nextStart text at) (k + 1)
+  stored-next e =
       let d : drop 1 (drop k ws) ≡ drop (k + 1) ws = drop-drop 1 k ws in
       let z : k + 0 ≡ k = omega arith in
-      let g : getD ws k 0 ≡ w = ap (λ (i : ℕ). getD ws i 0) (sym z) ∙ sym (getD-drop k ws 0 0) ∙ ap (λ (l : List ℕ). getD l 0 0) (split .0) ∙ sym (ew ∙ ap wordIn ef) in
+      let g : getD ws k 0 ≡ w = ap (λ (i : ℕ). getD ws i 0) (sym z) ∙ sym (getD-drop k ws 0 0) ∙ ap (λ (l : List ℕ). getD l 0 0) (split .0) ∙ sym e in
       record {
         room≤ = s .room≤;
         size = length-set new k w ∙ s .size;

@@ -38,17 +38,16 @@ pub fn read_log(text: &[u8], words: &mut [u32]) -> LogAnswer
     LogAnswer::Read(j.count)
 }
 
-// The words of a log whose lines were judged, into the first places of `words`.
+// The words of a log whose lines were judged, one line at a time, into the first places of `words`.
 fn store_words(text: &[u8], words: &mut [u32])
     requires { ⌜ Fitting (readLines 0 (lines (now text))) (length (now words)) ⌝ }
     ensures { λ _. ⌜ now (words .exit) ≡ wordsOf (readLines 0 (lines (now (text .entry)))) ++ drop (length (wordsOf (readLines 0 (lines (now (text .entry)))))) (now (words .entry)) ⌝ }
 {
-    let mut at: usize = 0;
+    let mut r = reader::reader_at(text, 0);
     let mut k: usize = 0;
-    while at < text.len() {
-        let line = text::line_at(text, at);
-        words[k] = facts::word_in(facts::facts_of(line));
+    while r.at < text.len() {
+        words[k] = facts::word_of(reader::line_of(r));
         k += 1;
-        at = at + line.len() + 1;
+        r = reader::after_line(r);
     }
 }

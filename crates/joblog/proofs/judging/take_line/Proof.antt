@@ -51,7 +51,7 @@ use Rattle.joblog.proofs.judging.take_line.Key.{name as #joblog·judgin
 use Rattle.joblog.proofs.judging.take_line as next
 use Rattle.joblog.proofs.judging.take_line.Statement as stated
 use Rattle.joblog.proofs.judging.take_line.Code as code
-use Rattle.joblog.proofs.Held.{ReaderType, laws, values, slice, OwnSlice, OwnReader, twice, lends}
+use Rattle.joblog.proofs.Held.{ReaderType, laws, slice, OwnSlice, OwnReader, twice, lends}
 
 abbrev stayed : Stays (next.ended .signature .params) (next.ended .kept)
 stayed = (stay-none ReaderType yes, (stay-none (λ _. S.the-row) yes, tt))

@@ -5,7 +5,7 @@ use mathlib.Core.List.{List, [], _∷_}
 use mathlib.Core.WellFounded.{WellFounded, InvImage·wf}
 use lib.WfN.{Nat·lt-wfRel}
 use lib.ListN.{length}
-use mir.Syntax.{Ty, Local, local, Body as Code, tyBool, seq, assign, cond, switch, skip, exit, call, block, loop, return}
+use mir.Syntax.{Ty, Local, local, Body as Code, tyBool}
 use mir.Val.{Val}
 use base.Fml.{Lft}
 use denote.Laws.{Is}
@@ -13,7 +13,6 @@ use denote.Ref.{RefT, now}
 use denote.Struct.Laws as LL
 use Rattle.text.specs.Text.{lines}
 use Rattle.joblog.specs.Log.{readLines}
-use Rattle.joblog.specs.Steps.{judged}
 use Rattle.joblog.specs.declared.reader.LineReader.{LineReader}
 use Rattle.joblog.specs.declared.judging.Judged.{Judged}
 use Rattle.joblog.proofs.LineByLine.{Standing, left}
@@ -22,6 +21,7 @@ use Rattle.joblog.proofs.judging.Judged as S
 use Rattle.joblog.proofs.judging.Judged.Laws as S′
 use Rattle.joblog.proofs.judging.judge_lines.Code as code
 use Rattle.joblog.proofs.Held.{ReaderType}
+use Rattle.joblog.proofs.Parts.{then, inside}
 
 -- the machine value of a log judged so far
 abbrev pub mval : Judged → Val
@@ -64,30 +64,6 @@ abbrev pub rT : Ty
 rT = typeOf (others (others (code.function .locals)))
 
 -- the parts of the body: what follows the first call, the loop's turn, and what follows the loop
-abbrev pub then : Code → Code
-then skip = skip
-then (seq a b) = b
-then (assign p r) = assign p r
-then (block b) = b
-then (loop b) = b
-then (cond c a b) = a
-then (switch c ks) = switch c ks
-then (exit n) = exit n
-then return = return
-then (call f xs d) = call f xs d
-
-abbrev pub inside : Code → Code
-inside skip = skip
-inside (seq a b) = a
-inside (assign p r) = assign p r
-inside (block b) = b
-inside (loop b) = b
-inside (cond c a b) = a
-inside (switch c ks) = switch c ks
-inside (exit n) = exit n
-inside return = return
-inside (call f xs d) = call f xs d
-
 abbrev pub body₂ : Code
 body₂ = then (code.function .body)
 
