@@ -23,7 +23,8 @@ fn main() {
     limits();
     tables::refused();
     tables::read();
-    tables::changed();
+    tables::changed_nodes();
+    tables::changed_edges();
     tables::wild();
 }
 

@@ -31,8 +31,8 @@ pub(crate) fn read() {
     of(b"table of an empty sheet: ", b"");
 }
 
-// W's table with a node or an edge changed. Its nodes 0 and 1 stand above its automaton, node 2 below it.
-pub(crate) fn changed() {
+// W's table with a node changed. Its nodes 0 and 1 stand above its automaton, node 2 below it.
+pub(crate) fn changed_nodes() {
     let a = sheet::read_sheet(&super::W);
     let w = a.table;
     given(
@@ -62,6 +62,12 @@ pub(crate) fn changed() {
         with_node(w, 1, line(b'D', 0, 0)),
     );
     given(b"B for D: ", with_node(w, 2, line(b'B', 0, 0)));
+}
+
+// W's table with an edge changed.
+pub(crate) fn changed_edges() {
+    let a = sheet::read_sheet(&super::W);
+    let w = a.table;
     given(
         b"an unused edge with a number: ",
         with_edge(w, 255, edge(0, 0, 1, 0)),

@@ -4,6 +4,7 @@ mod longest;
 use aldlf::Entry;
 use aldlf::Node;
 use walk::WalkAnswer;
+ghost use mathlib.Core.Path.{_≡_};
 ghost use Prim.Native.Nat.{_≤_};
 ghost use lib.ListN.{length};
 
@@ -28,6 +29,12 @@ struct Asked {
     room: usize,
 }
 
+fn ask(node: u8, entry: u16, room: usize) -> Asked
+    ensures { λ r. ⌜ r .room ≡ room ⌝ }
+{
+    Asked { node, entry, room }
+}
+
 fn main() {
     worked();
     ties();
@@ -39,294 +46,74 @@ fn main() {
 
 // The walks that document 01 gives, and those of X, whose B fails by a back edge.
 fn worked() {
-    tried(
-        b"Z node 8 at 4: ",
-        &Z,
-        &LOG_Z,
-        Asked {
-            node: 8,
-            entry: 4,
-            room: 6,
-        },
-    );
-    tried(
-        b"Z node 8 at 0: ",
-        &Z,
-        &LOG_Z,
-        Asked {
-            node: 8,
-            entry: 0,
-            room: 6,
-        },
-    );
-    tried(
-        b"Z node 8 at 0 in 4 places: ",
-        &Z,
-        &LOG_Z,
-        Asked {
-            node: 8,
-            entry: 0,
-            room: 4,
-        },
-    );
-    tried(
-        b"Z node 8 at 4 in no place: ",
-        &Z,
-        &LOG_Z,
-        Asked {
-            node: 8,
-            entry: 4,
-            room: 0,
-        },
-    );
-    tried(
-        b"Z node 5 at 2: ",
-        &Z,
-        &LOG_Z,
-        Asked {
-            node: 5,
-            entry: 2,
-            room: 6,
-        },
-    );
-    tried(
-        b"W node 2 at 0: ",
-        &W,
-        &LOG_W,
-        Asked {
-            node: 2,
-            entry: 0,
-            room: 6,
-        },
-    );
-    tried(
-        b"W node 2 at 1: ",
-        &W,
-        &LOG_W,
-        Asked {
-            node: 2,
-            entry: 1,
-            room: 6,
-        },
-    );
-    tried(
-        b"W node 2 at 2: ",
-        &W,
-        &LOG_W,
-        Asked {
-            node: 2,
-            entry: 2,
-            room: 6,
-        },
-    );
-    tried(
-        b"X node 2 at 0: ",
-        &X,
-        &NONE,
-        Asked {
-            node: 2,
-            entry: 0,
-            room: 6,
-        },
-    );
-    tried(
-        b"X node 2 at 2: ",
-        &X,
-        &NONE,
-        Asked {
-            node: 2,
-            entry: 2,
-            room: 6,
-        },
-    );
+    tried(b"Z node 8 at 4: ", &Z, &LOG_Z, ask(8, 4, 6));
+    tried(b"Z node 8 at 0: ", &Z, &LOG_Z, ask(8, 0, 6));
+    tried(b"Z node 8 at 0 in 4 places: ", &Z, &LOG_Z, ask(8, 0, 4));
+    tried(b"Z node 8 at 4 in no place: ", &Z, &LOG_Z, ask(8, 4, 0));
+    tried(b"Z node 5 at 2: ", &Z, &LOG_Z, ask(5, 2, 6));
+    tried(b"W node 2 at 0: ", &W, &LOG_W, ask(2, 0, 6));
+    tried(b"W node 2 at 1: ", &W, &LOG_W, ask(2, 1, 6));
+    tried(b"W node 2 at 2: ", &W, &LOG_W, ask(2, 2, 6));
+    tried(b"X node 2 at 0: ", &X, &NONE, ask(2, 0, 6));
+    tried(b"X node 2 at 2: ", &X, &NONE, ask(2, 2, 6));
 }
 
 // Equally short walks: the smallest number at the first edge where they differ, and a shorter walk before a smaller number.
 fn ties() {
-    let asked = Asked {
-        node: 1,
-        entry: 0,
-        room: 6,
-    };
+    let first = ask(1, 0, 6);
     tried(
         b"the first edge decides: ",
         b"T\nM,4,0\nG,3\nE,1,0,0,3\nE,2,0,0,3\nE,0,0,0,2\nE,0,0,0,1\nD,0,0\n",
         &NONE,
-        asked,
+        first,
     );
     tried(
         b"a later edge decides: ",
         b"T\nM,5,0\nG,4\nE,2,0,0,4\nE,3,0,0,4\nE,1,0,0,3\nE,1,0,0,2\nE,0,0,0,1\nD,0,0\n",
         &NONE,
-        asked,
+        first,
     );
     tried(
         b"repeated edges: ",
         b"T\nM,3,0\nG,2\nE,0,1,0,1\nE,0,1,0,1\nE,1,1,0,2\nE,1,1,0,2\nD,0,0\n",
         &NONE,
-        asked,
+        first,
     );
     tried(
         b"shorter before smaller: ",
         b"T\nM,3,0\nG,2\nE,0,0,0,1\nE,1,0,0,2\nE,0,0,0,2\nD,0,0\n",
         &NONE,
-        asked,
+        first,
     );
     tried(
         b"a circle of test edges: ",
         b"T\nM,2,0\nE,0,0,0,1\nE,1,0,0,0\nD,0,0\n",
         &NONE,
-        asked,
+        first,
     );
 }
 
 // Each refusal leaves the buffer as lent.
 fn refusals() {
-    tried(
-        b"31, of a table all zeros: ",
-        b"",
-        &LOG_W,
-        Asked {
-            node: 0,
-            entry: 0,
-            room: 6,
-        },
-    );
-    tried(
-        b"32, of no entry: ",
-        &W,
-        &LOG_W[..0],
-        Asked {
-            node: 2,
-            entry: 0,
-            room: 6,
-        },
-    );
+    tried(b"31, of a table all zeros: ", b"", &LOG_W, ask(0, 0, 6));
+    tried(b"32, of no entry: ", &W, &LOG_W[..0], ask(2, 0, 6));
     let many = [0u32; 513];
-    tried(
-        b"32, of 513 entries: ",
-        &W,
-        &many,
-        Asked {
-            node: 2,
-            entry: 0,
-            room: 6,
-        },
-    );
-    tried(
-        b"39, of 512 entries: ",
-        &W,
-        &many[..512],
-        Asked {
-            node: 2,
-            entry: 0,
-            room: 6,
-        },
-    );
-    tried(
-        b"36: ",
-        &W,
-        &LOG_W,
-        Asked {
-            node: 3,
-            entry: 0,
-            room: 6,
-        },
-    );
-    tried(
-        b"37: ",
-        &W,
-        &LOG_W,
-        Asked {
-            node: 2,
-            entry: 3,
-            room: 6,
-        },
-    );
-    tried(
-        b"38: ",
-        &W,
-        &LOG_W,
-        Asked {
-            node: 1,
-            entry: 0,
-            room: 6,
-        },
-    );
-    tried(
-        b"39: ",
-        &W,
-        &LOG_W,
-        Asked {
-            node: 2,
-            entry: 2,
-            room: 6,
-        },
-    );
-    tried(
-        b"40: ",
-        &Z,
-        &LOG_Z,
-        Asked {
-            node: 8,
-            entry: 0,
-            room: 3,
-        },
-    );
+    tried(b"32, of 513 entries: ", &W, &many, ask(2, 0, 6));
+    tried(b"39, of 512 entries: ", &W, &many[..512], ask(2, 0, 6));
+    tried(b"36: ", &W, &LOG_W, ask(3, 0, 6));
+    tried(b"37: ", &W, &LOG_W, ask(2, 3, 6));
+    tried(b"38: ", &W, &LOG_W, ask(1, 0, 6));
+    tried(b"39: ", &W, &LOG_W, ask(2, 2, 6));
+    tried(b"40: ", &Z, &LOG_Z, ask(8, 0, 3));
 }
 
 // Of two questions that get a no the first decides.
 fn order() {
-    tried(
-        b"31 before 32: ",
-        b"",
-        &LOG_W[..0],
-        Asked {
-            node: 0,
-            entry: 0,
-            room: 6,
-        },
-    );
-    tried(
-        b"32 before 36: ",
-        &W,
-        &LOG_W[..0],
-        Asked {
-            node: 3,
-            entry: 0,
-            room: 6,
-        },
-    );
-    tried(
-        b"36 before 37: ",
-        &W,
-        &LOG_W,
-        Asked {
-            node: 255,
-            entry: 65535,
-            room: 6,
-        },
-    );
-    tried(
-        b"37 before 38: ",
-        &W,
-        &LOG_W,
-        Asked {
-            node: 1,
-            entry: 3,
-            room: 6,
-        },
-    );
-    tried(
-        b"39 before 40: ",
-        &W,
-        &LOG_W,
-        Asked {
-            node: 2,
-            entry: 2,
-            room: 0,
-        },
-    );
+    tried(b"31 before 32: ", b"", &LOG_W[..0], ask(0, 0, 6));
+    tried(b"32 before 36: ", &W, &LOG_W[..0], ask(3, 0, 6));
+    tried(b"36 before 37: ", &W, &LOG_W, ask(255, 65535, 6));
+    tried(b"37 before 38: ", &W, &LOG_W, ask(1, 3, 6));
+    tried(b"39 before 40: ", &W, &LOG_W, ask(2, 2, 0));
 }
 
 // The shorter of two walks; of equally long ones the first.
