@@ -14,3 +14,4 @@ pub mod Questions
 pub mod Answers
 pub mod Judging
 pub mod Shown
+pub mod Told

@@ -1,5 +1,5 @@
 -- The questions of a walk at an accepted table and log, from 36 on: what the first no, or the last yes, answers.
-use Prim.Native.Nat.{ℕ, zero, suc}
+use Prim.Native.Nat.{ℕ, zero, suc, _≤_}
 use native.Mathlib.Omega.{arith}
 use mathlib.Core.Path.{_≡_, refl, sym, ap, _∙_}
 use mathlib.Core.Bool.{Bool, true, false, false≢true}
@@ -73,8 +73,8 @@ settled-early true true false f p node entry modal there room es buffer = absurd
 
 -- number 0 and number 40 come only after these yeses
 settled-0 : (given fits node entry modal there room : Bool) (es buffer : List ℕ) → settled (asked given fits node entry modal there room) es buffer .number ≡ 0
-    → ((given ≡ true) × (fits ≡ true) × (entry ≡ true) × (there ≡ true)) × (settled (asked given fits node entry modal there room) es buffer ≡ byRoom true es buffer)
-settled-0 true true true true true true true es buffer e = ((refl, refl, refl, refl), refl)
+    → ((given ≡ true) × (fits ≡ true) × (entry ≡ true) × (there ≡ true) × (room ≡ true)) × (settled (asked given fits node entry modal there room) es buffer ≡ byRoom true es buffer)
+settled-0 true true true true true true true es buffer e = ((refl, refl, refl, refl, refl), refl)
 settled-0 true true true true true true false es buffer e = absurd (omega arith)
 settled-0 true true true true true false room es buffer e = absurd (omega arith)
 settled-0 true true true true false there room es buffer e = absurd (omega arith)
@@ -93,6 +93,17 @@ settled-40 true true true false modal there room es buffer e = absurd (omega ari
 settled-40 true true false entry modal there room es buffer e = absurd (omega arith)
 settled-40 true false node entry modal there room es buffer e = absurd (omega arith)
 settled-40 false fits node entry modal there room es buffer e = absurd (omega arith)
+
+-- no question of a walk has a larger number than 40
+settled-most : (given fits node entry modal there room : Bool) (es buffer : List ℕ) → settled (asked given fits node entry modal there room) es buffer .number ≤ 40
+settled-most true true true true true true true es buffer = omega arith
+settled-most true true true true true true false es buffer = omega arith
+settled-most true true true true true false room es buffer = omega arith
+settled-most true true true true false there room es buffer = omega arith
+settled-most true true true false modal there room es buffer = omega arith
+settled-most true true false entry modal there room es buffer = omega arith
+settled-most true false node entry modal there room es buffer = omega arith
+settled-most false fits node entry modal there room es buffer = omega arith
 
 module _ (S : Sheet) (log : List ℕ) (k i : ℕ) (buffer : List ℕ) where
   abbrev there : Bool
@@ -129,7 +140,7 @@ module _ (S : Sheet) (log : List ℕ) (k i : ℕ) (buffer : List ℕ) where
   outcome-walk fits n e m = in-order true ∙ settled-walk (logFits log) (ltb k (S .nodes)) (ltb i (length log)) isModal (walkOf S log k i) buffer fits n e m
 
   pub outcome-0 : (given : Bool) → walkOutcome given S log k i buffer .number ≡ 0
-      → ((given ≡ true) × (logFits log ≡ true) × (ltb i (length log) ≡ true) × (there ≡ true)) × (walkOutcome given S log k i buffer ≡ byRoom true edges buffer)
+      → ((given ≡ true) × (logFits log ≡ true) × (ltb i (length log) ≡ true) × (there ≡ true) × (room ≡ true)) × (walkOutcome given S log k i buffer ≡ byRoom true edges buffer)
   outcome-0 given e =
       let r = settled-0 given (logFits log) (ltb k (S .nodes)) (ltb i (length log)) isModal there room edges buffer (ap (λ (x : walks.Shown). x .number) (sym (in-order given)) ∙ e) in
       (r .0, in-order given ∙ r .1)
@@ -138,3 +149,8 @@ module _ (S : Sheet) (log : List ℕ) (k i : ℕ) (buffer : List ℕ) where
       → ((given ≡ true) × (logFits log ≡ true) × (ltb i (length log) ≡ true) × (there ≡ true)) × (room ≡ false)
   outcome-40 given e =
       settled-40 given (logFits log) (ltb k (S .nodes)) (ltb i (length log)) isModal there room edges buffer (ap (λ (x : walks.Shown). x .number) (sym (in-order given)) ∙ e)
+
+  pub outcome-most : (given : Bool) → walkOutcome given S log k i buffer .number ≤ 40
+  outcome-most given =
+      let m = settled-most given (logFits log) (ltb k (S .nodes)) (ltb i (length log)) isModal there room edges buffer in
+      omega (arith, m, ap (λ (x : walks.Shown). x .number) (in-order given))

@@ -37,7 +37,7 @@ no-modal (O a b) v e = refl
 no-modal (D m a) v e = absurd (false≢true (sym e))
 no-modal (B m a) v e = absurd (false≢true (sym e))
 
-present-some : (o : Option (List ℕ)) → present o ≡ true → o ≡ some (edgesOf o)
+pub present-some : (o : Option (List ℕ)) → present o ≡ true → o ≡ some (edgesOf o)
 present-some none e = absurd (false≢true e)
 present-some (some es) e = refl
 
@@ -78,7 +78,7 @@ module _ (t : Table) (log : List ℕ) (k i : ℕ) where
   best : (li : i < length log) (es : List ℕ) → walkOf S log k i ≡ some es → Best S log k i es
   best li es p = walk-iff S log k i li es .0 p
 
-  short : wellFormed t ≡ true → logFits log ≡ true → i < length log → (es : List ℕ) → walkOf S log k i ≡ some es → length es < 8192
+  pub short : wellFormed t ≡ true → logFits log ≡ true → i < length log → (es : List ℕ) → walkOf S log k i ≡ some es → length es < 8192
   short w f li es p =
       limit-of S (sound t (table-facts t w)) k (length log) (length es) (few f) (S .line k) refl (best-short S log k i li (sound t (table-facts t w)) es (best li es p))
 
@@ -87,7 +87,7 @@ module _ (t : Table) (log : List ℕ) (k i : ℕ) where
       → (es : List ℕ) × Best S log k i es × (walkOutcome (wellFormed t) S log k i buffer ≡ record { number = 0; count = length es; buffer = es ++ drop (length es) buffer })
       × byMode (λ m a. length es < S .automaton m .states * length log) (λ m a. length es < S .automaton m .states * length log) ⊥ (S .line k)
   shown-best buffer e =
-      let ((w, f, entry, there), is) = outcome-0 S log k i buffer (wellFormed t) e in
+      let ((w, f, entry, there, long), is) = outcome-0 S log k i buffer (wellFormed t) e in
       let li = ltb-true i (length log) entry in
       let es = edgesOf (walkOf S log k i) in
       let b = best li es (present-some (walkOf S log k i) there) in

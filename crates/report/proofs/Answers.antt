@@ -1,0 +1,107 @@
+-- The answers of the calls, case by case, as the outcomes that the page is defined over; and what an outcome without a refusal says.
+use Prim.Native.Nat.{ℕ, zero, suc, _≤_}
+use mathlib.Core.Path.{_≡_, refl, ap, sym, _∙_}
+use mathlib.Core.Bool.{Bool, true, false}
+use mathlib.Core.List.{List, [], _∷_, _++_}
+use native.Mathlib.Omega.{arith}
+use borrow.Author.Tests.{leb-true, eqb-false}
+use lib.ListN.{length, take, drop, length-append}
+use lib.Seq.{take-at}
+use lib.Dec.{eqb, leb}
+use Rattle.aldlf.specs.Sheet.{Sheet}
+use Rattle.aldlf.specs.Outcomes.{Whole, firstNo, logFits, logWords, heldIn, wholeNumber, wholeOutcome}
+use Rattle.aldlf.specs.Walks.{Shown}
+use Rattle.walk.specs.Answer as walk
+use Rattle.walk.specs.declared.WalkAnswer.{WalkAnswer}
+use Rattle.walk.specs.declared.WalkAnswer.the-variants as walked
+use Rattle.joblog.specs.Log.{LogRead, entries, refused, answerOf, storedIn}
+use Rattle.joblog.specs.declared.LogAnswer.{LogAnswer}
+use Rattle.joblog.specs.declared.LogAnswer.the-variants as log
+use Rattle.judge.specs.Answers.{wholeOf, isHeld}
+use Rattle.judge.specs.declared.Judged.{Judged}
+use Rattle.judge.specs.declared.Judged.the-variants as judged
+use Rattle.report.specs.Lines.{refusalLine, verdictLines, walkLine}
+use Rattle.report.specs.Page.{refusedWalk, shownLine, judgedPage}
+
+-- a log that was read
+pub log-entries : (X : LogRead) (a : LogAnswer) (n : ℕ) (old new : List ℕ) → a ≡ log.Read n → a ≡ answerOf X → new ≡ storedIn X old → (n ≤ length new) × (X ≡ entries (take n new))
+log-entries (entries ws) a n old new r e h =
+    let l : n ≡ length ws = cc in
+    (omega (arith, l, ap length h, length-append ws (drop (length ws) old)), ap entries (sym (ap (take n) h ∙ take-at ws (drop (length ws) old) n (sym l))))
+log-entries (refused q k) a n old new r e h = let z : _≡_ {A = ℕ} 0 1 = cc in absurd (omega arith)
+
+-- a log that was refused
+pub log-refused : (X : LogRead) (a : LogAnswer) (q k : ℕ) → a ≡ log.Refused q k → a ≡ answerOf X → X ≡ refused q k
+log-refused (entries ws) a q k r e = let z : _≡_ {A = ℕ} 0 1 = cc in absurd (omega arith)
+log-refused (refused q′ k′) a q k r e = let u : q′ ≡ q = cc in let v : k′ ≡ k = cc in rw (u, v)
+
+-- questions that all get a yes
+yes-3 : (a b c : Bool) (p q r : ℕ) → firstNo ((a, suc p) ∷ (b, suc q) ∷ (c, suc r) ∷ []) ≡ 0 → (a ≡ true) × (b ≡ true) × (c ≡ true)
+yes-3 true true true p q r e = (refl, refl, refl)
+yes-3 true true false p q r e = absurd (omega arith)
+yes-3 true false c p q r e = absurd (omega arith)
+yes-3 false b c p q r e = absurd (omega arith)
+
+refused-line : (rule n : ℕ) (rest : List ℕ) (q : ℕ) (new : List ℕ) → (q ≡ 0 → ⊥) → refusalLine q 0 ≡ judgedPage rule n rest (record { number = q; held = 0; buffer = new })
+unfolding judgedPage
+refused-line rule n rest zero new z = absurd (z refl)
+refused-line rule n rest (suc q) new z = refl
+
+module _ (given : Bool) (S : Sheet) (log buffer : List ℕ) where
+  abbrev whole-at : ℕ → Whole
+  whole-at q =
+      elim q [
+        | zero ↦ record { number = 0; held = heldIn S log; buffer = logWords S log ++ drop (length log) buffer }
+        | suc q ↦ record { number = suc q; held = 0; buffer = buffer }
+      ]
+
+  number-at : (q : ℕ) → whole-at q .number ≡ q
+  number-at zero = refl
+  number-at (suc q) = refl
+
+  -- the number of a judging's outcome is that of the first question that gets a no
+  pub whole-number : wholeOutcome given S log buffer .number ≡ wholeNumber given log buffer
+  unfolding wholeOutcome
+  whole-number = number-at (wholeNumber given log buffer)
+
+  -- an accepted judging: questions 31 to 33 get a yes
+  pub whole-yes : wholeOutcome given S log buffer .number ≡ 0 → (given ≡ true) × (logFits log ≡ true) × (leb (length log) (length buffer) ≡ true)
+  unfolding wholeNumber
+  whole-yes e = yes-3 given (logFits log) (leb (length log) (length buffer)) 30 31 32 (sym whole-number ∙ e)
+
+  pub whole-held : wholeOutcome given S log buffer .number ≡ 0 → wholeOutcome given S log buffer .held ≡ heldIn S log
+  unfolding wholeOutcome
+  whole-held e = ap (λ (q : ℕ). whole-at q .held) (sym whole-number ∙ e)
+
+  pub whole-buffer : wholeOutcome given S log buffer .number ≡ 0 → wholeOutcome given S log buffer .buffer ≡ logWords S log ++ drop (length log) buffer
+  unfolding wholeOutcome
+  whole-buffer e = ap (λ (q : ℕ). whole-at q .buffer) (sym whole-number ∙ e)
+
+  -- the answer Held: there are as many places as entries, and the page goes on with the verdicts
+  pub held-room : (a : Judged) (h : ℕ) (new : List ℕ) → a ≡ judged.Held h → wholeOf a new ≡ wholeOutcome given S log buffer → length log ≤ length buffer
+  held-room a h new r e = leb-true (length log) (length buffer) (whole-yes (ap (λ (w : Whole). w .number) (sym e ∙ ap (λ (x : Judged). wholeOf x new) r)) .2)
+
+  pub held-page : (rule n : ℕ) (rest : List ℕ) (a : Judged) (h : ℕ) (new : List ℕ) → a ≡ judged.Held h → wholeOf a new ≡ wholeOutcome given S log buffer
+      → verdictLines rule h (take n new) ++ rest ≡ judgedPage rule n rest (wholeOutcome given S log buffer)
+  unfolding judgedPage
+  held-page rule n rest a h new r e = ap (judgedPage rule n rest) (ap (λ (x : Judged). wholeOf x new) (sym r) ∙ e)
+
+  -- the answer Refused: its line
+  pub refused-page : (rule n : ℕ) (rest : List ℕ) (a : Judged) (q : ℕ) (new : List ℕ) → a ≡ judged.Refused q → wholeOf a new ≡ wholeOutcome given S log buffer
+      → isHeld a ≡ eqb (wholeNumber given log buffer) 0 → refusalLine q 0 ≡ judgedPage rule n rest (wholeOutcome given S log buffer)
+  refused-page rule n rest a q new r e f =
+      let w : wholeOf (judged.Refused q) new ≡ wholeOutcome given S log buffer = ap (λ (x : Judged). wholeOf x new) (sym r) ∙ e in
+      let n₁ : q ≡ wholeNumber given log buffer = ap (λ (x : Whole). x .number) w ∙ whole-number in
+      let z : wholeNumber given log buffer ≡ 0 → ⊥ = eqb-false (wholeNumber given log buffer) 0 (sym (ap isHeld (sym r) ∙ f)) in
+      refused-line rule n rest q new (λ e₀. z (sym n₁ ∙ e₀)) ∙ ap (judgedPage rule n rest) w
+
+-- a walk that is shown: its line
+pub shown-page : (n : ℕ) (new : List ℕ) (w : WalkAnswer) (s : Shown) → w ≡ walked.Shown n → walk.answerOf w new ≡ s → walkLine (take n new) ≡ shownLine s
+unfolding shownLine walk.answerOf
+shown-page n new w s r e = ap (λ (x : WalkAnswer). shownLine (walk.answerOf x new)) (sym r) ∙ ap shownLine e
+
+-- no walk is shown: its line
+pub unshown-page : (q : ℕ) (new : List ℕ) (s : Shown) → (q ≡ 0 → ⊥) → record { number = q; count = 0; buffer = new } ≡ s → refusedWalk q ≡ shownLine s
+unfolding shownLine
+unshown-page zero new s z e = absurd (z refl)
+unshown-page (suc q) new s z e = ap shownLine e

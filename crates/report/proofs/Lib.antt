@@ -1,0 +1,8 @@
+pub mod Storing
+pub mod Decimals
+pub mod Pages
+pub mod Answers
+pub mod Worked
+pub mod Numbers
+pub mod Fits
+pub mod Printed

@@ -1,0 +1,107 @@
+// The printed page as bytes: the sheet is read, then the log, then the log is judged, then the rule's walk is shown.
+mod appending;
+mod lines;
+
+use aldlf::Entry;
+use aldlf::Node;
+use aldlf::Table;
+use joblog::LogAnswer;
+use judge::Judged;
+use lines::put_no_walk;
+use lines::put_refusal;
+use lines::put_verdicts;
+use lines::put_walk;
+use walk::WalkAnswer;
+ghost use mathlib.Core.Path.{_≡_};
+ghost use Prim.Native.Nat.{min};
+ghost use lib.ListN.{length};
+ghost use Rattle.aldlf.specs.Constants.{entryLimit};
+ghost use Rattle.joblog.specs.Log.{readLog};
+ghost use Rattle.report.specs.Lines.{printedIn};
+ghost use Rattle.report.specs.Page.{ruleOf, refusedWalk, walkPage, tablePage, logPage, pageOf};
+ghost use Rattle.report.specs.Appending.{Appends};
+
+// No page is longer, so that a buffer of so many bytes takes every page.
+pub const BYTES: usize = 40000;
+
+// The longest shortest walk has so many edges: it meets no state twice at an entry.
+const WALK: usize = aldlf::STATES * aldlf::ENTRIES - 1;
+
+// The text of the page in the first places of `out`, as many bytes of it as fit, and how many those are; the rest of `out` keeps
+// its content. Every sheet and every log has a page: a refusal is a page of one line.
+pub fn page(rules: &[u8], steps: &[u8], out: &mut [u8]) -> usize
+    ensures { λ r. ⌜ (r ≡ min (length (pageOf (now (rules .entry)) (now (steps .entry)))) (length (now (out .entry)))) × (now (out .exit) ≡ printedIn (pageOf (now (rules .entry)) (now (steps .entry))) (now (out .entry))) ⌝ }
+{
+    let s = sheet::read_sheet(rules);
+    if s.number != 0 {
+        return put_refusal(out, 0, s.number, s.line as usize);
+    }
+    let t = s.table;
+    put_log_page(out, t, steps)
+}
+
+// The page of a table and a log's text.
+fn put_log_page(out: &mut [u8], table: Table, steps: &[u8]) -> usize
+    ensures { λ r. ⌜ Appends (logPage table (readLog (now (steps .entry)) entryLimit)) (now (out .entry)) 0 (now (out .exit)) r ⌝ }
+{
+    let mut words = [0u32; aldlf::ENTRIES];
+    let a = joblog::read_log(steps, &mut words);
+    match a {
+        LogAnswer::Read(n) => put_table_page(out, table, &words[..n]),
+        LogAnswer::Refused(number, line) => put_refusal(out, 0, number, line),
+    }
+}
+
+// The page of a table and a log.
+fn put_table_page(out: &mut [u8], table: Table, log: &[u32]) -> usize
+    ensures { λ r. ⌜ Appends (tablePage table (now (log .entry))) (now (out .entry)) 0 (now (out .exit)) r ⌝ }
+{
+    let mut verdicts = [0u64; aldlf::ENTRIES];
+    let n = log.len();
+    let j = judge::judge(table, log, &mut verdicts);
+    match j {
+        Judged::Held(held) => {
+            let rule = rule_of(table);
+            let next = put_verdicts(out, 0, &verdicts[..n], rule, held);
+            put_walk_page(out, next, table, log)
+        }
+        Judged::Refused(number) => put_refusal(out, 0, number, 0),
+    }
+}
+
+// The last node.
+fn rule_of(table: Table) -> Node
+    ensures { λ r. ⌜ r .0 ≡ ruleOf table ⌝ }
+{
+    let n = table.used.nodes;
+    if n == 0 {
+        return Node(0);
+    }
+    Node(n - 1)
+}
+
+// The line of the rule's walk at entry 0.
+fn put_walk_page(out: &mut [u8], at: usize, table: Table, log: &[u32]) -> usize
+    ensures { λ r. ⌜ Appends (walkPage table (now (log .entry))) (now (out .entry)) at (now (out .exit)) r ⌝ }
+{
+    let mut edges = [0u16; WALK];
+    let rule = rule_of(table);
+    let w = walk::walk(table, log, rule, Entry(0), &mut edges);
+    match w {
+        WalkAnswer::Shown(n) => put_walk(out, at, &edges[..n]),
+        WalkAnswer::Refused(number) => put_refused_walk(out, at, number),
+    }
+}
+
+// The line where no walk is shown: `walk,none` if 38 or 39 applies.
+fn put_refused_walk(out: &mut [u8], at: usize, number: u8) -> usize
+    ensures { λ r. ⌜ Appends (refusedWalk number) (now (out .entry)) at (now (out .exit)) r ⌝ }
+{
+    if number == 38 {
+        return put_no_walk(out, at);
+    }
+    if number == 39 {
+        return put_no_walk(out, at);
+    }
+    put_refusal(out, at, number, 0)
+}
