@@ -1,0 +1,10 @@
+pub mod Listed
+pub mod Packed
+pub mod Unpacked
+pub mod Copied
+pub mod Crossing
+pub mod GivenTables
+pub mod Sheets
+pub mod Logs
+pub mod Judging
+pub mod Walks

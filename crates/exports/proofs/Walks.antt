@@ -1,0 +1,28 @@
+-- The call that shows a walk: each answer is the definition's.
+use Prim.Native.Nat.{ℕ}
+use mathlib.Core.Path.{_≡_, ap, sym, _∙_}
+use mathlib.Core.List.{List}
+use Rattle.aldlf.specs.Sheet.{sheetOf}
+use Rattle.aldlf.specs.Walks.{walkOutcome}
+use Rattle.aldlf.specs.declared.Table.{Table}
+use Rattle.sheet.specs.Given.{wellFormed}
+use Rattle.walk.specs.declared.WalkAnswer.{WalkAnswer}
+use Rattle.walk.specs.declared.WalkAnswer.the-variants as walked
+use Rattle.walk.specs.Answer.{answerOf}
+use Rattle.walk.proofs.Told.{told-refused}
+use Rattle.exports.specs.Numbers.{tableOf}
+use Rattle.exports.specs.Answers.{accepted, refusal, outcome}
+use Rattle.exports.specs.Showing.{shown, walkShown}
+
+module _ (table log : List ℕ) (node entry : ℕ) (edges after : List ℕ) (t : Table) (r : WalkAnswer) (a : ℕ) (is : t ≡ tableOf table)
+    (ends : answerOf r after ≡ walkOutcome (wellFormed t) (sheetOf t) log node entry edges) where
+  walk-is : shown (walkOutcome (wellFormed t) (sheetOf t) log node entry edges) ≡ walkShown table log node entry edges
+  unfolding walkShown
+  walk-is = ap (λ (u : Table). shown (walkOutcome (wellFormed u) (sheetOf u) log node entry edges)) is
+
+  pub walk-shown : (n : ℕ) → r ≡ walked.Shown n → a ≡ accepted n → outcome a after ≡ walkShown table log node entry edges
+  unfolding answerOf
+  walk-shown n g e = ap (λ (x : ℕ). outcome x after) e ∙ ap (λ (x : WalkAnswer). shown (answerOf x after)) (sym g) ∙ ap shown ends ∙ walk-is
+
+  pub walk-refused : (q : ℕ) → r ≡ walked.Refused q → a ≡ refusal q → outcome a after ≡ walkShown table log node entry edges
+  walk-refused q g e = ap (λ (x : ℕ). outcome x after) e ∙ ap shown (told-refused t log node entry edges after r ends q g .1) ∙ walk-is

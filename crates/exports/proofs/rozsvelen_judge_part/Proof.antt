@@ -1,0 +1,86 @@
+-- `rozsvelen_judge_part` meets its contract: question 35, then the part's own answer, then its row. Assumes nothing.
+use denote.Ref.{now}
+use Rattle.exports.proofs.Judging.{part-short, part-refused, part-judged}
+use borrow.Author.Needs.{needs}
+use Rattle.exports.proofs.rozsvelen_judge_part.Statement.{statement}
+use Rattle.exports.proofs.rozsvelen_judge_part.Tie as tie
+
+code-requires : tie.Need-code-requires
+code-requires c κs = search needs
+
+returns : tie.Need-returns
+returns c =
+    let a = c .before .before .before .before .before .before .args in
+    part-short (now (a .table)) (a .way) (now (a .row)) (now (a .words)) (now (a .verdicts)) _ (c .before .if1 .taken) (c .code .ensures)
+
+table-of-requires : tie.Need-table-of-requires
+table-of-requires c κs = search needs
+
+way-of-requires : tie.Need-way-of-requires
+way-of-requires c κs = search needs
+
+row-of-requires : tie.Need-row-of-requires
+row-of-requires c κs = search needs
+
+judge-part-requires : tie.Need-judge-part-requires
+judge-part-requires c κs = search needs
+
+code-requires-2 : tie.Need-code-requires-2
+code-requires-2 c κs = search needs
+
+same-length : tie.Need-same-length
+same-length c = search needs
+
+same-length-2 : tie.Need-same-length-2
+same-length-2 c = search needs
+
+returns-2 : tie.Need-returns-2
+returns-2 c =
+    let a = c .before .before .before .before .before .before .before .before .before .before .before .before .before .before .before .before .args in
+    let t = c .before .before .before .before .before .before .before .before .before .before .table-of in
+    let y = c .before .before .before .before .before .before .before .before .before .way-of in
+    let o = c .before .before .before .before .before .before .before .row-of in
+    let p = c .before .before .before .before .before .judge-part in
+    part-refused (now (a .table)) (a .way) (now (a .row)) (now (a .words)) (now (a .verdicts)) (t .result) (y .result) (o .result) (p .result) _ _ (c .before .before .before .before .before .before .before .before .before .before .before .if1 .left) (t .ensures) (y .ensures) (o .ensures) (p .ensures) (c .code2 .ensures) (c .before .if2 .taken)
+
+put-row-requires : tie.Need-put-row-requires
+put-row-requires c κs = search needs
+
+code-requires-3 : tie.Need-code-requires-3
+code-requires-3 c κs = search needs
+
+same-length-3 : tie.Need-same-length-3
+same-length-3 c = search needs
+
+same-length-4 : tie.Need-same-length-4
+same-length-4 c = search needs
+
+returns-3 : tie.Need-returns-3
+returns-3 c =
+    let a = c .before .before .before .before .before .before .before .before .before .before .before .before .before .before .before .before .before .before .before .before .before .args in
+    let t = c .before .before .before .before .before .before .before .before .before .before .before .before .before .before .before .table-of in
+    let y = c .before .before .before .before .before .before .before .before .before .before .before .before .before .before .way-of in
+    let o = c .before .before .before .before .before .before .before .before .before .before .before .before .row-of in
+    let p = c .before .before .before .before .before .before .before .before .before .before .judge-part in
+    let w = c .before .before .before .put-row in
+    part-judged (now (a .table)) (a .way) (now (a .row)) (now (a .words)) (now (a .verdicts)) (t .result) (y .result) (o .result) (p .result) _ _ (c .before .before .before .before .before .before .before .before .before .before .before .before .before .before .before .before .if1 .left) (t .ensures) (y .ensures) (o .ensures) (p .ensures) (c .code3 .ensures) _ (c .before .before .before .before .before .before .if2 .left) (w .ensures)
+
+pub rozsvelen-judge-part-spec : {M : Type 1} → statement M
+rozsvelen-judge-part-spec =
+    tie.close
+    (tie.spec
+    code-requires
+    returns
+    table-of-requires
+    way-of-requires
+    row-of-requires
+    judge-part-requires
+    code-requires-2
+    same-length
+    same-length-2
+    returns-2
+    put-row-requires
+    code-requires-3
+    same-length-3
+    same-length-4
+    returns-3)

@@ -1,0 +1,65 @@
+-- `rozsvelen_walk` meets its contract: the answer of showing a walk of the table that the numbers give. Assumes nothing.
+use native.Mathlib.Omega.{arith}
+use denote.Ref.{now}
+use Rattle.walk.proofs.Told.{told-count}
+use Rattle.exports.proofs.Walks.{walk-shown, walk-refused}
+use borrow.Author.Needs.{needs}
+use Rattle.exports.proofs.rozsvelen_walk.Statement.{statement}
+use Rattle.exports.proofs.rozsvelen_walk.Tie as tie
+
+table-of-requires : tie.Need-table-of-requires
+table-of-requires c κs = search needs
+
+walk-requires : tie.Need-walk-requires
+walk-requires c κs = search needs
+
+enum-known-r : tie.Need-enum-known-r
+enum-known-r c = search needs
+
+code-requires : tie.Need-code-requires
+code-requires c κs =
+    let a = c .before .before .before .before .before .before .before .before .before .before .before .args in
+    let w = c .before .before .before .before .before .walk in
+    let few = told-count (c .before .before .before .before .before .before .before .table-of .result) (now (a .log)) (a .node) (a .entry) (now (a .edges)) _ (w .result) (w .ensures) (c .before .r .given .0 .0) (c .before .r .given .1) in
+    (omega arith, omega (arith, few .1))
+
+enum-known-r-2 : tie.Need-enum-known-r-2
+enum-known-r-2 c = search needs
+
+code-requires-2 : tie.Need-code-requires-2
+code-requires-2 c κs = search needs
+
+same-length : tie.Need-same-length
+same-length c = search needs
+
+returns : tie.Need-returns
+returns c =
+    let a = c .before .before .before .before .before .before .before .before .before .before .before .before .args in
+    let t = c .before .before .before .before .before .before .before .before .table-of in
+    let w = c .before .before .before .before .before .before .walk in
+    walk-shown (now (a .table)) (now (a .log)) (a .node) (a .entry) (now (a .edges)) _ (t .result) (w .result) _ (t .ensures) (w .ensures) (c .before .before .r .given .0 .0) (c .before .before .r .given .1) (c .code .ensures)
+
+same-length-2 : tie.Need-same-length-2
+same-length-2 c = search needs
+
+returns-2 : tie.Need-returns-2
+returns-2 c =
+    let a = c .before .before .before .before .before .before .before .before .before .before .before .before .args in
+    let t = c .before .before .before .before .before .before .before .before .table-of in
+    let w = c .before .before .before .before .before .before .walk in
+    walk-refused (now (a .table)) (now (a .log)) (a .node) (a .entry) (now (a .edges)) _ (t .result) (w .result) _ (t .ensures) (w .ensures) (c .before .before .r2 .given .0 .0) (c .before .before .r2 .given .1) (c .code2 .ensures)
+
+pub rozsvelen-walk-spec : {M : Type 1} → statement M
+rozsvelen-walk-spec =
+    tie.close
+    (tie.spec
+    table-of-requires
+    walk-requires
+    enum-known-r
+    code-requires
+    enum-known-r-2
+    code-requires-2
+    same-length
+    returns
+    same-length-2
+    returns-2)

@@ -1,0 +1,50 @@
+-- What the calls answer, as one number, and what they leave in a lent slice: reading a sheet and reading a log.
+use Prim.Native.Nat.{ℕ, _+_, _*_}
+use mathlib.Core.Bool.{cond}
+use mathlib.Core.List.{List}
+use lib.Dec.{eqb}
+use lib.ListN.{length}
+use Rattle.joblog.specs.Log.{LogRead, entries, refused, readLog, storedIn}
+use Rattle.sheet.specs.declared.SheetAnswer.{SheetAnswer}
+use Rattle.sheet.specs.Questions.{readSheet}
+use Rattle.exports.specs.Numbers.{tableSize, tableNumbers}
+
+-- the low 16 bits are the count, the next 16 the number of the question that got a no (0: accepted), the upper 32 the line
+unfoldable pub answerCode : (number line count : ℕ) → ℕ
+answerCode number line count = count + 65536 * number + 4294967296 * line
+
+-- an accepted call's answer, and a refusal's about no line
+abbrev pub accepted : ℕ → ℕ
+accepted count = answerCode 0 0 count
+
+abbrev pub refusal : ℕ → ℕ
+refusal number = answerCode number 0 0
+
+-- a call's answer, and the lent slice that it may write as it ends
+pub record Outcome : Type 0 where
+  pub answer : ℕ
+  pub slice : List ℕ
+
+abbrev pub outcome : ℕ → List ℕ → Outcome
+outcome r slice = record { answer = r; slice = slice }
+
+-- question 35: a lent table or row has its fixed length
+abbrev pub ofLength : ℕ → List ℕ → Outcome → Outcome
+ofLength n lent rest = cond (eqb (length lent) n) rest (outcome (refusal 35) lent)
+
+-- a sheet as read: its number and its line; the table's numbers where it was accepted
+abbrev pub readInto : List ℕ → SheetAnswer → Outcome
+readInto table a = outcome (answerCode (a .number) (a .line) 0) (cond (eqb (a .number) 0) (tableNumbers (a .table)) table)
+
+-- reading a sheet into a lent table
+unfoldable pub sheetOutcome : (text table : List ℕ) → Outcome
+sheetOutcome text table = ofLength tableSize table (readInto table (readSheet text))
+
+-- a log as read: how many entries, or the question's number and the line
+unfoldable pub logCode : LogRead → ℕ
+logCode (entries ws) = accepted (length ws)
+logCode (refused q k) = answerCode q k 0
+
+-- reading a log into lent words
+unfoldable pub logOutcome : (text words : List ℕ) → Outcome
+logOutcome text words = let r = readLog text (length words) in outcome (logCode r) (storedIn r words)

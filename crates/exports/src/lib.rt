@@ -1,0 +1,150 @@
+// The calls for C and Rust: numbers and slices. Each answers one number (specs/Answers.antt, `answerCode`); a table crosses as
+// 1,315 numbers and a row as 64 (specs/Numbers.antt).
+mod answer;
+mod pack;
+mod rows;
+mod unpack;
+
+use aldlf::Entry;
+use aldlf::Node;
+use aldlf::Way;
+use answer::code;
+use joblog::LogAnswer;
+use judge::Judged;
+use pack::TABLE;
+use pack::put_table;
+use rows::put_row;
+use rows::row_of;
+use unpack::table_of;
+use walk::WalkAnswer;
+ghost use mathlib.Core.Path.{_≡_};
+ghost use Rattle.exports.specs.Answers.{outcome, sheetOutcome, logOutcome};
+ghost use Rattle.exports.specs.Judging.{partEnds, judgeOutcome, plainOutcome, judgePartOutcome, wayOf};
+ghost use Rattle.exports.specs.Showing.{walkShown, pageOutcome};
+
+// The boundary's own question: a lent table or row has its fixed length.
+const LENGTH: u8 = 35;
+
+// Reads a sheet's text into a table. A refusal alters nothing.
+#[no_mangle]
+pub extern "C" fn rozsvelen_read_sheet(text: &[u8], table: &mut [u16]) -> u64
+    ensures { λ r. ⌜ outcome r (now (table .exit)) ≡ sheetOutcome (now (text .entry)) (now (table .entry)) ⌝ }
+{
+    if table.len() != TABLE {
+        return code(LENGTH, 0, 0);
+    }
+    let a = sheet::read_sheet(text);
+    if a.number != 0 {
+        return code(a.number, a.line as usize, 0);
+    }
+    let t = a.table;
+    put_table(t, table);
+    code(a.number, a.line as usize, 0)
+}
+
+// Reads a log's text into words and counts its entries. A refusal alters nothing.
+#[no_mangle]
+pub extern "C" fn rozsvelen_read_log(text: &[u8], words: &mut [u32]) -> u64
+    ensures { λ r. ⌜ outcome r (now (words .exit)) ≡ logOutcome (now (text .entry)) (now (words .entry)) ⌝ }
+{
+    let r = joblog::read_log(text, words);
+    match r {
+        LogAnswer::Read(n) => code(0, 0, n),
+        LogAnswer::Refused(q, k) => code(q, k, 0),
+    }
+}
+
+// Judges a whole log, and counts the entries at which the rule holds. A refusal alters nothing.
+#[no_mangle]
+pub extern "C" fn rozsvelen_judge(table: &[u16], log: &[u32], verdicts: &mut [u64]) -> u64
+    ensures { λ r. ⌜ outcome r (now (verdicts .exit)) ≡ judgeOutcome (now (table .entry)) (now (log .entry)) (now (verdicts .entry)) ⌝ }
+{
+    let t = table_of(table);
+    let r = judge::judge(t, log, verdicts);
+    match r {
+        Judged::Held(n) => code(0, 0, n),
+        Judged::Refused(q) => code(q, 0, 0),
+    }
+}
+
+// Puts the plain row, from which a run starts, into a row. A refusal alters nothing.
+#[no_mangle]
+pub extern "C" fn rozsvelen_plain_row(table: &[u16], row: &mut [u16]) -> u64
+    ensures { λ r. ⌜ outcome r (now (row .exit)) ≡ plainOutcome (now (table .entry)) (now (row .entry)) ⌝ }
+{
+    if row.len() != aldlf::NODES {
+        return code(LENGTH, 0, 0);
+    }
+    let t = table_of(table);
+    if !sheet::is_given(t) {
+        return code(31, 0, 0);
+    }
+    put_row(judge::plain_row(t), row);
+    code(0, 0, 0)
+}
+
+// Judges a part, given the row of the entry just outside it, and puts the row for the next part in its place. A refusal alters
+// nothing. way: 1 is ahead, any other number back.
+#[no_mangle]
+pub extern "C" fn rozsvelen_judge_part(
+    table: &[u16],
+    way: u8,
+    row: &mut [u16],
+    words: &[u32],
+    verdicts: &mut [u64],
+) -> u64
+    ensures { λ r. ⌜ partEnds r (now (row .exit)) (now (verdicts .exit)) ≡ judgePartOutcome (now (table .entry)) way (now (row .entry)) (now (words .entry)) (now (verdicts .entry)) ⌝ }
+{
+    if row.len() != aldlf::NODES {
+        return code(LENGTH, 0, 0);
+    }
+    let t = table_of(table);
+    let w = way_of(way);
+    let given = row_of(row);
+    let a = judge::judge_part(t, w, given, words, verdicts);
+    if a.number != 0 {
+        return code(a.number, 0, 0);
+    }
+    let next = a.row;
+    put_row(next, row);
+    code(a.number, 0, 0)
+}
+
+// The way that a number names.
+fn way_of(way: u8) -> Way
+    ensures { λ r. ⌜ r ≡ wayOf way ⌝ }
+{
+    if way == 1 {
+        return Way::Ahead;
+    }
+    Way::Back
+}
+
+// The walk that shows a node at an entry, and the count of its edges. A refusal alters nothing.
+#[no_mangle]
+pub extern "C" fn rozsvelen_walk(
+    table: &[u16],
+    log: &[u32],
+    node: u8,
+    entry: u16,
+    edges: &mut [u16],
+) -> u64
+    ensures { λ r. ⌜ outcome r (now (edges .exit)) ≡ walkShown (now (table .entry)) (now (log .entry)) node entry (now (edges .entry)) ⌝ }
+{
+    let t = table_of(table);
+    let r = walk::walk(t, log, Node(node), Entry(entry), edges);
+    match r {
+        WalkAnswer::Shown(n) => code(0, 0, n),
+        WalkAnswer::Refused(q) => code(q, 0, 0),
+    }
+}
+
+// The page of a sheet and a log in the first places of a slice, as many bytes as fit, and the count of these. It never refuses: a
+// refused sheet or log has a page of one line.
+#[no_mangle]
+pub extern "C" fn rozsvelen_page(rules: &[u8], steps: &[u8], page: &mut [u8]) -> u64
+    ensures { λ r. ⌜ outcome r (now (page .exit)) ≡ pageOutcome (now (rules .entry)) (now (steps .entry)) (now (page .entry)) ⌝ }
+{
+    let bytes = report::page(rules, steps, page);
+    code(0, 0, bytes)
+}

@@ -1,0 +1,64 @@
+/* Rozsvelen: a proved rule checker for job logs. Link with libexports.a (`rt staticlib exports`).
+ *
+ * Every function answers one number. Its low 16 bits are a count or length, the next 16 the number of the question that got a no
+ * (0: accepted), and its upper 32 bits the line that the question is about (from 1; 0 for questions not about a line).
+ * A refusal alters nothing that was lent. The questions and their numbers are those of the rule sheet's description; one is the
+ * boundary's own and asked first: 35, a slice of fixed length (a table, a row) has another length.
+ * A slice is a pointer and the number of its elements. No function keeps a pointer. */
+#ifndef ROZSVELEN_H
+#define ROZSVELEN_H
+
+#include <stddef.h>
+#include <stdint.h>
+
+#ifdef __cplusplus
+extern "C" {
+#endif
+
+#define ROZSVELEN_TABLE 1315   /* numbers of a table */
+#define ROZSVELEN_ROW 64       /* numbers of a row, one for each node */
+#define ROZSVELEN_ENTRIES 512  /* at most so many entries are judged at once */
+#define ROZSVELEN_WALK 8191    /* a buffer of so many places takes every walk */
+#define ROZSVELEN_PAGE 40000   /* a buffer of so many bytes takes every page */
+#define ROZSVELEN_AHEAD 1
+#define ROZSVELEN_BACK 2
+
+/* The parts of an answer. */
+static inline uint32_t rozsvelen_count(uint64_t answer) { return (uint32_t)(answer & 0xffff); }
+static inline uint32_t rozsvelen_number(uint64_t answer) { return (uint32_t)(answer >> 16 & 0xffff); }
+static inline uint32_t rozsvelen_line(uint64_t answer) { return (uint32_t)(answer >> 32); }
+
+/* Reads a rule sheet's text into a table of ROZSVELEN_TABLE numbers: questions 1 to 11. */
+uint64_t rozsvelen_read_sheet(const uint8_t *text, size_t text_len, uint16_t *table, size_t table_len);
+
+/* Reads a job log's text into words, bit f for fact f, and counts the entries: questions 21 to 27.
+ * The words take the first places, the rest keep their content. */
+uint64_t rozsvelen_read_log(const uint8_t *text, size_t text_len, uint32_t *words, size_t words_len);
+
+/* Judges a whole log: one word per entry, bit k for node k, in the first places of verdicts; counts the entries at which the rule,
+ * the last node, holds. Questions 31, 32, 33. */
+uint64_t rozsvelen_judge(const uint16_t *table, size_t table_len, const uint32_t *log, size_t log_len, uint64_t *verdicts, size_t verdicts_len);
+
+/* Puts the plain row, which the first part of a run gets, into a row of ROZSVELEN_ROW numbers. Question 31. */
+uint64_t rozsvelen_plain_row(const uint16_t *table, size_t table_len, uint16_t *row, size_t row_len);
+
+/* Judges a part of a log, given the row of the entry just outside it, and puts the row for the next part in its place.
+ * way: ROZSVELEN_AHEAD, parts come from the last to the first; any other number is ROZSVELEN_BACK, from the first to the last.
+ * Questions 31, 34, 32, 33. */
+uint64_t rozsvelen_judge_part(const uint16_t *table, size_t table_len, uint8_t way, uint16_t *row, size_t row_len,
+                              const uint32_t *words, size_t words_len, uint64_t *verdicts, size_t verdicts_len);
+
+/* The edge numbers of the shortest walk, with the lowest edges, that shows node `node` at entry `entry`, in the first places of edges;
+ * counts them. Questions 31, 32, 36 to 40. */
+uint64_t rozsvelen_walk(const uint16_t *table, size_t table_len, const uint32_t *log, size_t log_len, uint8_t node, uint16_t entry,
+                        uint16_t *edges, size_t edges_len);
+
+/* The page of a sheet and a log as text, in the first places of page; counts its bytes. A refusal of the sheet or the log is a page too:
+ * its one line. A shorter buffer than ROZSVELEN_PAGE takes the first bytes of a longer page. It never refuses. */
+uint64_t rozsvelen_page(const uint8_t *rules, size_t rules_len, const uint8_t *steps, size_t steps_len, uint8_t *page, size_t page_len);
+
+#ifdef __cplusplus
+}
+#endif
+
+#endif

@@ -1,0 +1,95 @@
+//! The C functions of the static library, and what their answers mean. Nothing else in this crate is unsafe.
+use crate::{Refused, Way, ROW, TABLE};
+
+extern "C" {
+    fn rozsvelen_read_sheet(text: *const u8, text_len: usize, table: *mut u16, table_len: usize) -> u64;
+    fn rozsvelen_read_log(text: *const u8, text_len: usize, words: *mut u32, words_len: usize) -> u64;
+    fn rozsvelen_judge(table: *const u16, table_len: usize, log: *const u32, log_len: usize, verdicts: *mut u64, verdicts_len: usize) -> u64;
+    fn rozsvelen_plain_row(table: *const u16, table_len: usize, row: *mut u16, row_len: usize) -> u64;
+    fn rozsvelen_judge_part(
+        table: *const u16,
+        table_len: usize,
+        way: u8,
+        row: *mut u16,
+        row_len: usize,
+        words: *const u32,
+        words_len: usize,
+        verdicts: *mut u64,
+        verdicts_len: usize,
+    ) -> u64;
+    fn rozsvelen_walk(
+        table: *const u16,
+        table_len: usize,
+        log: *const u32,
+        log_len: usize,
+        node: u8,
+        entry: u16,
+        edges: *mut u16,
+        edges_len: usize,
+    ) -> u64;
+    fn rozsvelen_page(rules: *const u8, rules_len: usize, steps: *const u8, steps_len: usize, page: *mut u8, page_len: usize) -> u64;
+}
+
+/// At most so many bytes on a page.
+const PAGE: usize = 40_000;
+
+/// An answer's number: a count or length in the low 16 bits, the refusal's number in the next 16, its line above.
+fn answer(code: u64) -> Result<usize, Refused> {
+    let number = (code >> 16 & 0xffff) as u8;
+    if number == 0 {
+        Ok((code & 0xffff) as usize)
+    } else {
+        Err(Refused { number, line: (code >> 32) as u32 })
+    }
+}
+
+pub fn read_sheet(text: &[u8], table: &mut [u16; TABLE]) -> Result<usize, Refused> {
+    answer(unsafe { rozsvelen_read_sheet(text.as_ptr(), text.len(), table.as_mut_ptr(), table.len()) })
+}
+
+pub fn read_log(text: &[u8], words: &mut [u32]) -> Result<usize, Refused> {
+    answer(unsafe { rozsvelen_read_log(text.as_ptr(), text.len(), words.as_mut_ptr(), words.len()) })
+}
+
+pub fn judge(table: &[u16; TABLE], log: &[u32], verdicts: &mut [u64]) -> Result<usize, Refused> {
+    answer(unsafe { rozsvelen_judge(table.as_ptr(), table.len(), log.as_ptr(), log.len(), verdicts.as_mut_ptr(), verdicts.len()) })
+}
+
+pub fn plain_row(table: &[u16; TABLE]) -> [u16; ROW] {
+    let mut row = [0; ROW];
+    unsafe { rozsvelen_plain_row(table.as_ptr(), table.len(), row.as_mut_ptr(), row.len()) };
+    row
+}
+
+pub fn judge_part(table: &[u16; TABLE], way: Way, row: &[u16; ROW], words: &[u32], verdicts: &mut [u64]) -> Result<[u16; ROW], Refused> {
+    let mut next = *row;
+    let way = match way {
+        Way::Ahead => 1,
+        Way::Back => 2,
+    };
+    answer(unsafe {
+        rozsvelen_judge_part(
+            table.as_ptr(),
+            table.len(),
+            way,
+            next.as_mut_ptr(),
+            next.len(),
+            words.as_ptr(),
+            words.len(),
+            verdicts.as_mut_ptr(),
+            verdicts.len(),
+        )
+    })?;
+    Ok(next)
+}
+
+pub fn walk(table: &[u16; TABLE], log: &[u32], node: u8, entry: u16, edges: &mut [u16]) -> Result<usize, Refused> {
+    answer(unsafe { rozsvelen_walk(table.as_ptr(), table.len(), log.as_ptr(), log.len(), node, entry, edges.as_mut_ptr(), edges.len()) })
+}
+
+pub fn page(rules: &[u8], steps: &[u8]) -> Vec<u8> {
+    let mut page = vec![0; PAGE];
+    let code = unsafe { rozsvelen_page(rules.as_ptr(), rules.len(), steps.as_ptr(), steps.len(), page.as_mut_ptr(), page.len()) };
+    page.truncate((code & 0xffff) as usize);
+    page
+}

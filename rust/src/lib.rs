@@ -1,0 +1,182 @@
+//! A rule checker for job logs, proved in Rattle. This crate is a safe wrapper of its static library.
+//!
+//! A rule sheet says which entries of a job log must lie before or after which. Read both, judge the log, and ask for the walk
+//! that shows a verdict:
+//!
+//! ```
+//! use rozsvelen::{judge, walk, Log, Sheet};
+//!
+//! // `approved` is fact 1. The rule: from here some later entry (or this one) is an approval.
+//! let sheet = Sheet::read(b"T\nP,1\nM,1,0\nG,0\nE,0,1,0,0\nD,0,1\n").unwrap();
+//! let log = Log::read(b"0\n1\n2\n").unwrap();
+//! let mut verdicts = [0u64; 3];
+//! assert_eq!(judge(&sheet, log.words(), &mut verdicts), Ok(2));
+//! assert_eq!(verdicts.map(|w| w >> 2 & 1), [1, 1, 0]);
+//!
+//! let mut edges = [0u16; 8];
+//! assert_eq!(walk(&sheet, log.words(), 2, 0, &mut edges), Ok(1));
+//! assert_eq!(edges[0], 0);
+//! assert_eq!(walk(&sheet, log.words(), 2, 2, &mut edges).unwrap_err().number, 39);
+//! ```
+#![warn(missing_docs)]
+
+mod boundary;
+
+use std::error::Error;
+use std::fmt;
+
+/// How many numbers a table is.
+pub const TABLE: usize = 1315;
+/// How many numbers a row is, one for each node.
+pub const ROW: usize = 64;
+/// At most so many entries are judged at once.
+pub const ENTRIES: usize = 512;
+/// A buffer of so many places takes every walk.
+pub const WALK: usize = 8191;
+
+/// A refusal: the number of the first question that got a no, and the line it is about (from 1; 0 for questions not about a line).
+#[derive(Clone, Copy, Debug, PartialEq, Eq)]
+pub struct Refused {
+    /// The question's number.
+    pub number: u8,
+    /// The line, or 0.
+    pub line: u32,
+}
+
+impl fmt::Display for Refused {
+    fn fmt(&self, f: &mut fmt::Formatter<'_>) -> fmt::Result {
+        match self.line {
+            0 => write!(f, "refused by question {}", self.number),
+            line => write!(f, "refused by question {} at line {}", self.number, line),
+        }
+    }
+}
+
+impl Error for Refused {}
+
+/// Which way a sheet looks, and so which way its logs may be cut.
+#[derive(Clone, Copy, Debug, PartialEq, Eq)]
+pub enum Way {
+    /// No edge goes back: parts are judged from the last to the first.
+    Ahead,
+    /// No edge goes ahead: parts are judged from the first to the last.
+    Back,
+}
+
+/// A rule sheet that was read.
+#[derive(Clone, PartialEq, Eq)]
+pub struct Sheet {
+    table: [u16; TABLE],
+}
+
+impl fmt::Debug for Sheet {
+    fn fmt(&self, f: &mut fmt::Formatter<'_>) -> fmt::Result {
+        let [nodes, automata, edges] = [0, 1, 2].map(|i| self.table[TABLE - 3 + i]);
+        write!(f, "Sheet {{ nodes: {nodes}, automata: {automata}, edges: {edges} }}")
+    }
+}
+
+impl Sheet {
+    /// Reads a sheet's text: its table, or the first question that gets a no and its line.
+    ///
+    /// ```
+    /// use rozsvelen::{Refused, Sheet};
+    /// assert!(Sheet::read(b"T\nP,31\n").is_ok());
+    /// assert_eq!(Sheet::read(b"T\nP,32\n"), Err(Refused { number: 7, line: 2 }));
+    /// ```
+    pub fn read(text: &[u8]) -> Result<Sheet, Refused> {
+        let mut table = [0; TABLE];
+        boundary::read_sheet(text, &mut table)?;
+        Ok(Sheet { table })
+    }
+
+    /// A table's numbers as a sheet. Every call asks of them whether some sheet gives them (question 31).
+    pub fn from_numbers(table: [u16; TABLE]) -> Sheet {
+        Sheet { table }
+    }
+
+    /// The table's numbers.
+    pub fn numbers(&self) -> &[u16; TABLE] {
+        &self.table
+    }
+}
+
+/// A job log that was read: a word for each entry, bit f for fact f.
+#[derive(Clone, Debug, PartialEq, Eq)]
+pub struct Log {
+    words: Vec<u32>,
+}
+
+impl Log {
+    /// Reads a log's text: its words, or the first question that gets a no and its line.
+    ///
+    /// ```
+    /// use rozsvelen::{Log, Refused};
+    /// assert_eq!(Log::read(b"0,2\n-\n").unwrap().words(), [5, 0]);
+    /// assert_eq!(Log::read(b"-\n1,1\n"), Err(Refused { number: 26, line: 2 }));
+    /// ```
+    pub fn read(text: &[u8]) -> Result<Log, Refused> {
+        let mut words = vec![0; ENTRIES];
+        let count = boundary::read_log(text, &mut words)?;
+        words.truncate(count);
+        Ok(Log { words })
+    }
+
+    /// The entries' words.
+    pub fn words(&self) -> &[u32] {
+        &self.words
+    }
+}
+
+/// Reads a log's text into lent words and says how many; a refusal alters nothing.
+///
+/// ```
+/// let mut words = [7; 3];
+/// assert_eq!(rozsvelen::read_log(b"0\n1\n", &mut words), Ok(2));
+/// assert_eq!(words, [1, 2, 7]);
+/// ```
+pub fn read_log(text: &[u8], words: &mut [u32]) -> Result<usize, Refused> {
+    boundary::read_log(text, words)
+}
+
+/// Judges a whole log: a word for each entry, bit k for node k, in the first places of `verdicts`. Gives how many entries the rule holds at.
+pub fn judge(sheet: &Sheet, log: &[u32], verdicts: &mut [u64]) -> Result<usize, Refused> {
+    boundary::judge(&sheet.table, log, verdicts)
+}
+
+/// The row at the end of a log (looking back, at its start): the first part of a run gets it.
+pub fn plain_row(sheet: &Sheet) -> [u16; ROW] {
+    boundary::plain_row(&sheet.table)
+}
+
+/// Judges a part of a log, given the row of the entry just outside it, and gives the row for the next part.
+///
+/// ```
+/// use rozsvelen::{judge_part, plain_row, Sheet, Way};
+/// let sheet = Sheet::read(b"T\nP,1\nM,1,0\nG,0\nE,0,1,0,0\nD,0,1\n").unwrap();
+/// let mut words = [0u64; 2];
+/// let late = judge_part(&sheet, Way::Ahead, &plain_row(&sheet), &[2, 4], &mut words).unwrap();
+/// assert_eq!(words.map(|w| w >> 2 & 1), [1, 0]);
+/// judge_part(&sheet, Way::Ahead, &late, &[1], &mut words).unwrap();
+/// assert_eq!(words[0] >> 2 & 1, 1);
+/// ```
+pub fn judge_part(sheet: &Sheet, way: Way, row: &[u16; ROW], words: &[u32], verdicts: &mut [u64]) -> Result<[u16; ROW], Refused> {
+    boundary::judge_part(&sheet.table, way, row, words, verdicts)
+}
+
+/// The edge numbers of the walk that shows node `node` at entry `entry`, in the first places of `edges`: the shortest, with the lowest edges.
+/// It ends where a D node's goal holds, or where a B node's goal fails. Gives how many edges it has.
+pub fn walk(sheet: &Sheet, log: &[u32], node: u8, entry: u16, edges: &mut [u16]) -> Result<usize, Refused> {
+    boundary::walk(&sheet.table, log, node, entry, edges)
+}
+
+/// The page of a sheet and a log, as the program prints it.
+///
+/// ```
+/// let page = rozsvelen::page(b"T\nM,2,0\nG,1\nE,0,1,0,1\nD,0,0\n", b"-\n-\n-\n");
+/// assert_eq!(page, b"0,1\n1,1\n2,0\nrule,1,held,2,of,3\nwalk,1,0\n");
+/// assert_eq!(rozsvelen::page(b"", b"-\n"), b"refused,2,0\n");
+/// ```
+pub fn page(rules: &[u8], steps: &[u8]) -> Vec<u8> {
+    boundary::page(rules, steps)
+}

@@ -1,0 +1,22 @@
+//! A second checker, written from document 01 alone and by other means than the product's: texts are split as strings, verdicts come from sets of
+//! configurations that are closed by repetition from each start, and walks are enumerated by their length.
+pub mod logs;
+pub mod meaning;
+pub mod sheets;
+
+/// A refusal: number and line.
+pub type No = (u8, u32);
+
+/// The number that a field is: one to three digits, no leading zero except `0` itself.
+pub fn number(field: &[u8]) -> Option<u32> {
+    let text = std::str::from_utf8(field).ok()?;
+    let fits = (1..=3).contains(&text.len()) && text.bytes().all(|b| b.is_ascii_digit()) && (text == "0" || !text.starts_with('0'));
+    fits.then(|| text.parse().unwrap())
+}
+
+/// The lines of a text that ends in LF.
+pub fn lines(text: &[u8]) -> Vec<&[u8]> {
+    let mut all: Vec<&[u8]> = text.split(|b| *b == b'\n').collect();
+    all.pop();
+    all
+}

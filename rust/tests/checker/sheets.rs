@@ -1,0 +1,241 @@
+//! Questions 1 to 11, and question 31: a table is one that some sheet gives if its own lines, written out, read to it again.
+use super::{lines, number, No};
+
+pub const TABLE: usize = 1315;
+
+#[derive(Clone, Copy, Debug, PartialEq, Eq)]
+pub enum Line {
+    True,
+    False,
+    Fact(usize),
+    Not(usize),
+    And(usize, usize),
+    Or(usize, usize),
+    Some(usize, usize),
+    Every(usize, usize),
+}
+
+#[derive(Clone, Copy, Debug, PartialEq, Eq)]
+pub struct Edge {
+    pub from: usize,
+    pub dir: usize,
+    pub test: usize,
+    pub to: usize,
+}
+
+#[derive(Clone, Debug, PartialEq, Eq)]
+pub struct Automaton {
+    pub states: usize,
+    pub start: usize,
+    pub accepting: Vec<usize>,
+    pub edges: Vec<usize>,
+    pub line: u32,
+    pub nodes_above: usize,
+}
+
+#[derive(Clone, Debug, Default, PartialEq, Eq)]
+pub struct Sheet {
+    pub nodes: Vec<Line>,
+    pub automata: Vec<Automaton>,
+    pub edges: Vec<Edge>,
+}
+
+pub fn read(text: &[u8]) -> Result<Sheet, No> {
+    if text.len() > 49_152 {
+        return Err((1, 0));
+    }
+    if text.last() != Some(&b'\n') {
+        return Err((2, 0));
+    }
+    let mut sheet = Sheet::default();
+    let mut previous = b' ';
+    let mut place = 0;
+    for line in lines(text) {
+        place += 1;
+        let fields: Vec<&[u8]> = line.split(|b| *b == b',').collect();
+        let letter = sheet.add(&fields, previous, place).map_err(|q| (q, place))?;
+        previous = letter;
+    }
+    for m in &sheet.automata {
+        let stands = |s: usize| m.edges.iter().any(|e| sheet.edges[*e].from == s || sheet.edges[*e].to == s);
+        if !(0..m.states).all(stands) {
+            return Err((10, m.line));
+        }
+    }
+    if b"MGE".contains(&previous) {
+        return Err((11, place));
+    }
+    Ok(sheet)
+}
+
+impl Sheet {
+    /// One line more; the number of the first question that gets a no.
+    fn add(&mut self, fields: &[&[u8]], previous: u8, place: u32) -> Result<u8, u8> {
+        let wanted = match fields[0] {
+            b"T" | b"F" => 1,
+            b"P" | b"N" | b"G" => 2,
+            b"A" | b"O" | b"D" | b"B" | b"M" => 3,
+            b"E" => 5,
+            _ => return Err(3),
+        };
+        if fields.len() != wanted {
+            return Err(3);
+        }
+        let letter = fields[0][0];
+        let n: Vec<usize> = fields[1..].iter().map(|f| number(f).map(|v| v as usize)).collect::<Option<_>>().ok_or(4)?;
+        let room = match letter {
+            b'M' => self.automata.len() < 16,
+            b'E' => self.edges.len() < 256,
+            b'G' => true,
+            _ => self.nodes.len() < 64,
+        };
+        if !room {
+            return Err(5);
+        }
+        if b"GE".contains(&letter) && !b"MGE".contains(&previous) {
+            return Err(6);
+        }
+        if !self.in_range(letter, &n) {
+            return Err(7);
+        }
+        if letter == b'G' && self.automata.last().unwrap().accepting.contains(&n[0]) {
+            return Err(8);
+        }
+        if letter == b'E' && n[1] > 0 && self.modal(n[2]) {
+            return Err(9);
+        }
+        self.take(letter, &n, place);
+        Ok(letter)
+    }
+
+    fn in_range(&self, letter: u8, n: &[usize]) -> bool {
+        let node = |k: usize| k < self.nodes.len();
+        let state = |s: usize| s < self.automata.last().unwrap().states;
+        match letter {
+            b'P' => n[0] <= 31,
+            b'N' => node(n[0]),
+            b'A' | b'O' => node(n[0]) && node(n[1]),
+            b'D' | b'B' => n[0] < self.automata.len() && node(n[1]),
+            b'M' => (1..=16).contains(&n[0]) && n[1] < n[0],
+            b'G' => state(n[0]),
+            b'E' => state(n[0]) && n[1] <= 2 && node(n[2]) && state(n[3]),
+            _ => true,
+        }
+    }
+
+    /// Whether node k is a D or B, or built on one.
+    pub fn modal(&self, k: usize) -> bool {
+        match self.nodes[k] {
+            Line::True | Line::False | Line::Fact(_) => false,
+            Line::Not(a) => self.modal(a),
+            Line::And(a, b) | Line::Or(a, b) => self.modal(a) || self.modal(b),
+            Line::Some(..) | Line::Every(..) => true,
+        }
+    }
+
+    fn take(&mut self, letter: u8, n: &[usize], place: u32) {
+        let node = match letter {
+            b'T' => Line::True,
+            b'F' => Line::False,
+            b'P' => Line::Fact(n[0]),
+            b'N' => Line::Not(n[0]),
+            b'A' => Line::And(n[0], n[1]),
+            b'O' => Line::Or(n[0], n[1]),
+            b'D' => Line::Some(n[0], n[1]),
+            b'B' => Line::Every(n[0], n[1]),
+            b'M' => {
+                let nodes_above = self.nodes.len();
+                self.automata.push(Automaton { states: n[0], start: n[1], accepting: vec![], edges: vec![], line: place, nodes_above });
+                return;
+            }
+            b'G' => return self.automata.last_mut().unwrap().accepting.push(n[0]),
+            _ => {
+                self.automata.last_mut().unwrap().edges.push(self.edges.len());
+                return self.edges.push(Edge { from: n[0], dir: n[1], test: n[2], to: n[3] });
+            }
+        };
+        self.nodes.push(node);
+    }
+
+    /// The table's numbers: 64 node lines of letter and two operands, 16 automata of states, start, accepting states as bits, first edge, edges and
+    /// nodes above, 256 edges of four numbers, and how many nodes, automata and edges there are.
+    pub fn numbers(&self) -> [u16; TABLE] {
+        let mut t = [0u16; TABLE];
+        for (k, line) in self.nodes.iter().enumerate() {
+            let (letter, a, b) = match *line {
+                Line::True => (b'T', 0, 0),
+                Line::False => (b'F', 0, 0),
+                Line::Fact(f) => (b'P', f, 0),
+                Line::Not(a) => (b'N', a, 0),
+                Line::And(a, b) => (b'A', a, b),
+                Line::Or(a, b) => (b'O', a, b),
+                Line::Some(m, a) => (b'D', m, a),
+                Line::Every(m, a) => (b'B', m, a),
+            };
+            t[3 * k..3 * k + 3].copy_from_slice(&[letter as u16, a as u16, b as u16]);
+        }
+        let mut first = 0;
+        for (m, x) in self.automata.iter().enumerate() {
+            let bits: u32 = x.accepting.iter().map(|s| 1 << s).sum();
+            let six = [x.states, x.start, bits as usize, first, x.edges.len(), x.nodes_above].map(|v| v as u16);
+            t[192 + 6 * m..198 + 6 * m].copy_from_slice(&six);
+            first += x.edges.len();
+        }
+        for (e, x) in self.edges.iter().enumerate() {
+            t[288 + 4 * e..292 + 4 * e].copy_from_slice(&[x.from, x.dir, x.test, x.to].map(|v| v as u16));
+        }
+        t[1312..].copy_from_slice(&[self.nodes.len(), self.automata.len(), self.edges.len()].map(|v| v as u16));
+        t
+    }
+
+    pub fn looks_only(&self, ahead: bool) -> bool {
+        self.edges.iter().all(|e| e.dir != if ahead { 2 } else { 1 })
+    }
+}
+
+/// Question 31: the sheet that gives these numbers, if one does.
+pub fn given(t: &[u16; TABLE]) -> Option<Sheet> {
+    let text = written(t)?;
+    let sheet = read(text.as_bytes()).ok()?;
+    (sheet.numbers() == *t).then_some(sheet)
+}
+
+/// The lines that a table's numbers would come from, as far as they can be written.
+fn written(t: &[u16; TABLE]) -> Option<String> {
+    let [nodes, automata, edges] = [t[1312] as usize, t[1313] as usize, t[1314] as usize];
+    if nodes > 64 || automata > 16 || edges > 256 {
+        return None;
+    }
+    let mut text = String::new();
+    let mut next = 0;
+    for k in 0..=nodes {
+        while next < automata && t[192 + 6 * next + 5] as usize == k {
+            text += &automaton(t, next)?;
+            next += 1;
+        }
+        if k == nodes {
+            break;
+        }
+        let [letter, a, b] = [t[3 * k], t[3 * k + 1], t[3 * k + 2]];
+        text += &match u8::try_from(letter).ok()? {
+            c @ (b'T' | b'F') => format!("{}\n", c as char),
+            c @ (b'P' | b'N') => format!("{},{a}\n", c as char),
+            c @ (b'A' | b'O' | b'D' | b'B') => format!("{},{a},{b}\n", c as char),
+            _ => return None,
+        };
+    }
+    Some(text)
+}
+
+fn automaton(t: &[u16; TABLE], m: usize) -> Option<String> {
+    let x = &t[192 + 6 * m..198 + 6 * m];
+    let mut text = format!("M,{},{}\n", x[0], x[1]);
+    for s in (0..16).filter(|s| x[2] >> s & 1 == 1) {
+        text += &format!("G,{s}\n");
+    }
+    for e in x[3] as usize..x[3] as usize + x[4] as usize {
+        let e = t.get(288 + 4 * e..292 + 4 * e).filter(|_| e < 256)?;
+        text += &format!("E,{},{},{},{}\n", e[0], e[1], e[2], e[3]);
+    }
+    Some(text)
+}

@@ -1,0 +1,204 @@
+//! Random sheets, logs, rows and damage, from a seed.
+
+/// A generator of numbers that is the same on every machine (SplitMix64).
+pub struct Random(pub u64);
+
+impl Random {
+    pub fn next(&mut self) -> u64 {
+        self.0 = self.0.wrapping_add(0x9e37_79b9_7f4a_7c15);
+        let mut z = self.0;
+        z = (z ^ (z >> 30)).wrapping_mul(0xbf58_476d_1ce4_e5b9);
+        z = (z ^ (z >> 27)).wrapping_mul(0x94d0_49bb_1331_11eb);
+        z ^ (z >> 31)
+    }
+
+    /// A number below n.
+    pub fn below(&mut self, n: usize) -> usize {
+        (self.next() % n as u64) as usize
+    }
+
+    /// Yes in one of n cases.
+    pub fn one_in(&mut self, n: usize) -> bool {
+        self.below(n) == 0
+    }
+
+    pub fn pick<'a, T>(&mut self, all: &'a [T]) -> &'a T {
+        &all[self.below(all.len())]
+    }
+}
+
+/// Which directions a sheet's edges may have.
+#[derive(Clone, Copy, PartialEq, Eq)]
+pub enum Looks {
+    Ahead,
+    Back,
+    Both,
+}
+
+struct Writer<'a> {
+    random: &'a mut Random,
+    text: String,
+    nodes: usize,
+    plain: Vec<usize>,
+    automata: usize,
+    edges: usize,
+}
+
+/// A sheet that reads, of random size: mostly small, now and then near the limits.
+pub fn sheet(random: &mut Random, looks: Looks) -> String {
+    let large = random.one_in(40);
+    let (most_nodes, most_automata) = if large { (64, 16) } else { (4 + random.below(8), 1 + random.below(3)) };
+    let mut w = Writer { random, text: String::new(), nodes: 0, plain: vec![], automata: 0, edges: 0 };
+    for _ in 0..2 {
+        w.leaf();
+    }
+    while w.nodes < most_nodes - 1 {
+        if w.automata < most_automata && w.edges < 220 && w.random.one_in(3) {
+            w.automaton(looks, large);
+        } else {
+            w.node();
+        }
+    }
+    w.node();
+    w.text
+}
+
+/// A sheet at every limit: 64 nodes, 16 automata of 16 states, 256 edges.
+pub fn largest_sheet(random: &mut Random) -> String {
+    let mut text = "P,0\nP,1\nT\n".to_string();
+    for _ in 0..16 {
+        text += &format!("M,16,{}\nG,{}\n", random.below(16), random.below(16));
+        for s in 0..16 {
+            text += &format!("E,{s},{},{},{}\n", random.below(3), random.below(3), random.below(16));
+        }
+    }
+    for k in 3..64 {
+        text += &format!("{},{},{}\n", random.pick(&['D', 'B']), random.below(16), random.below(k));
+    }
+    text
+}
+
+impl Writer<'_> {
+    fn leaf(&mut self) {
+        self.text += &match self.random.below(6) {
+            0 => "T\n".to_string(),
+            1 => "F\n".to_string(),
+            _ => format!("P,{}\n", self.random.below(4)),
+        };
+        self.plain.push(self.nodes);
+        self.nodes += 1;
+    }
+
+    fn node(&mut self) {
+        if self.random.one_in(4) {
+            return self.leaf();
+        }
+        let [a, b] = [0, 1].map(|_| self.random.below(self.nodes));
+        let is_plain = |k: &usize| self.plain.contains(k);
+        let (line, plain) = match self.random.below(if self.automata > 0 { 9 } else { 3 }) {
+            0 => (format!("N,{a}\n"), is_plain(&a)),
+            1 => (format!("A,{a},{b}\n"), is_plain(&a) && is_plain(&b)),
+            2 => (format!("O,{a},{b}\n"), is_plain(&a) && is_plain(&b)),
+            n => {
+                let m = self.random.below(self.automata);
+                (format!("{},{m},{a}\n", if n % 2 == 0 { 'D' } else { 'B' }), false)
+            }
+        };
+        self.text += &line;
+        if plain {
+            self.plain.push(self.nodes);
+        }
+        self.nodes += 1;
+    }
+
+    fn automaton(&mut self, looks: Looks, large: bool) {
+        let states = 1 + self.random.below(if large { 16 } else { 4 });
+        self.text += &format!("M,{states},{}\n", self.random.below(states));
+        let mut touched = vec![false; states];
+        let mut extra = 1 + self.random.below(4);
+        let mut accepting = vec![];
+        while touched.contains(&false) || extra > 0 {
+            let from = touched.iter().position(|t| !t).filter(|_| extra == 0).unwrap_or_else(|| self.random.below(states));
+            let to = self.random.below(states);
+            touched[from] = true;
+            touched[to] = true;
+            extra = extra.saturating_sub(1);
+            self.edge(looks, from, to);
+            let s = self.random.below(states);
+            if self.random.one_in(3) && !accepting.contains(&s) {
+                accepting.push(s);
+                self.text += &format!("G,{s}\n");
+            }
+        }
+        let s = self.random.below(states);
+        if !accepting.contains(&s) && !self.random.one_in(8) {
+            self.text += &format!("G,{s}\n");
+        }
+        self.automata += 1;
+    }
+
+    fn edge(&mut self, looks: Looks, from: usize, to: usize) {
+        let dir = match looks {
+            Looks::Ahead => *self.random.pick(&[0, 1, 1]),
+            Looks::Back => *self.random.pick(&[0, 2, 2]),
+            Looks::Both => self.random.below(3),
+        };
+        let test = if dir == 0 { self.random.below(self.nodes) } else { *self.random.pick(&self.plain) };
+        self.text += &format!("E,{from},{dir},{test},{to}\n");
+        self.edges += 1;
+    }
+}
+
+/// The words of a log of so many entries, over the facts that the sheets speak of.
+pub fn log(random: &mut Random, entries: usize) -> Vec<u32> {
+    (0..entries).map(|_| (random.next() & random.next()) as u32 & 0xf).collect()
+}
+
+/// The text of a log.
+pub fn log_text(words: &[u32]) -> String {
+    let mut text = String::new();
+    for w in words {
+        let facts: Vec<String> = (0..32).filter(|f| w >> f & 1 == 1).map(|f| f.to_string()).collect();
+        text += &if facts.is_empty() { "-".to_string() } else { facts.join(",") };
+        text.push('\n');
+    }
+    text
+}
+
+/// A text with a few bytes or lines changed.
+pub fn damaged(random: &mut Random, text: &str) -> Vec<u8> {
+    let mut bytes = text.as_bytes().to_vec();
+    for _ in 0..1 + random.below(2) {
+        let mut lines: Vec<Vec<u8>> = bytes.split_inclusive(|b| *b == b'\n').map(<[u8]>::to_vec).collect();
+        let i = random.below(lines.len().max(1));
+        match random.below(7) {
+            0 if !lines.is_empty() => lines.insert(i, lines[i].clone()),
+            1 if lines.len() > 1 => {
+                lines.remove(i);
+            }
+            2 if !lines.is_empty() => {
+                let j = random.below(lines.len());
+                lines.swap(i, j);
+            }
+            3 if !bytes.is_empty() => {
+                let at = random.below(bytes.len());
+                bytes[at] = *random.pick(b"0123456789,\n-TFPNAODBMGE \r\0");
+                continue;
+            }
+            4 => {
+                let at = random.below(bytes.len() + 1);
+                bytes.insert(at, *random.pick(b"0123456789,\n-TFPNAODBMGE \r\0"));
+                continue;
+            }
+            5 if !bytes.is_empty() => {
+                bytes.remove(random.below(bytes.len()));
+                continue;
+            }
+            _ => bytes.truncate(bytes.len().saturating_sub(1)),
+        }
+        if random.below(7) < 6 {
+            bytes = lines.concat();
+        }
+    }
+    bytes
+}
