@@ -85,7 +85,7 @@ fn judging(name: &str, text: &str, log: &[u32], times: usize) {
 
 fn parts(log: &[u32], times: usize) {
     let sheet = Sheet::read(W.as_bytes()).unwrap();
-    let plain = rozsvelen::plain_row(&sheet);
+    let plain = rozsvelen::plain_row(&sheet).unwrap();
     let [mut a, mut b] = [[0u64; 512]; 2];
     let mut by_parts = || log.chunks(32).rev().fold(plain, |row, part| rozsvelen::judge_part(&sheet, Way::Ahead, &row, part, &mut a).unwrap());
     let mut by_masks = || log.chunks(32).rev().fold(plain, |row, part| masks::part(sheet.numbers(), part, &mut b, Some(&row)).unwrap().1);

@@ -10,7 +10,7 @@ fn main() -> Result<(), Box<dyn Error>> {
     let sheet = Sheet::read(&read("rules.txt")?)?;
     let rule = 6;
 
-    let mut row = plain_row(&sheet);
+    let mut row = plain_row(&sheet)?;
     let mut by_shifts = vec![];
     for shift in ["shift-1.txt", "shift-2.txt", "shift-3.txt"] {
         let log = Log::read(&read(shift)?)?;

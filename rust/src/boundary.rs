@@ -55,10 +55,10 @@ pub fn judge(table: &[u16; TABLE], log: &[u32], verdicts: &mut [u64]) -> Result<
     answer(unsafe { rozsvelen_judge(table.as_ptr(), table.len(), log.as_ptr(), log.len(), verdicts.as_mut_ptr(), verdicts.len()) })
 }
 
-pub fn plain_row(table: &[u16; TABLE]) -> [u16; ROW] {
+pub fn plain_row(table: &[u16; TABLE]) -> Result<[u16; ROW], Refused> {
     let mut row = [0; ROW];
-    unsafe { rozsvelen_plain_row(table.as_ptr(), table.len(), row.as_mut_ptr(), row.len()) };
-    row
+    answer(unsafe { rozsvelen_plain_row(table.as_ptr(), table.len(), row.as_mut_ptr(), row.len()) })?;
+    Ok(row)
 }
 
 pub fn judge_part(table: &[u16; TABLE], way: Way, row: &[u16; ROW], words: &[u32], verdicts: &mut [u64]) -> Result<[u16; ROW], Refused> {

@@ -91,6 +91,12 @@ impl Sheet {
     }
 
     /// A table's numbers as a sheet. Every call asks of them whether some sheet gives them (question 31).
+    ///
+    /// ```
+    /// use rozsvelen::{judge, Refused, Sheet, TABLE};
+    /// let sheet = Sheet::from_numbers([0; TABLE]);
+    /// assert_eq!(judge(&sheet, &[0], &mut [0]), Err(Refused { number: 31, line: 0 }));
+    /// ```
     pub fn from_numbers(table: [u16; TABLE]) -> Sheet {
         Sheet { table }
     }
@@ -140,12 +146,30 @@ pub fn read_log(text: &[u8], words: &mut [u32]) -> Result<usize, Refused> {
 }
 
 /// Judges a whole log: a word for each entry, bit k for node k, in the first places of `verdicts`. Gives how many entries the rule holds at.
+/// A refusal alters nothing.
+///
+/// ```
+/// use rozsvelen::{judge, Refused, Sheet};
+/// // the rule, node 1: there is a next entry
+/// let sheet = Sheet::read(b"T\nM,2,0\nG,1\nE,0,1,0,1\nD,0,0\n").unwrap();
+/// let mut verdicts = [9; 4];
+/// assert_eq!(judge(&sheet, &[0, 0, 0], &mut verdicts), Ok(2));
+/// assert_eq!(verdicts, [0b11, 0b11, 0b01, 9]);
+/// assert_eq!(judge(&sheet, &[], &mut verdicts), Err(Refused { number: 32, line: 0 }));
+/// ```
 pub fn judge(sheet: &Sheet, log: &[u32], verdicts: &mut [u64]) -> Result<usize, Refused> {
     boundary::judge(&sheet.table, log, verdicts)
 }
 
-/// The row at the end of a log (looking back, at its start): the first part of a run gets it.
-pub fn plain_row(sheet: &Sheet) -> [u16; ROW] {
+/// The row at the end of a log (looking back, at its start): the first part of a run gets it. All bits of a B are set, all of a D clear.
+///
+/// ```
+/// use rozsvelen::{plain_row, Sheet};
+/// // node 2 is a B over an automaton of one state
+/// let sheet = Sheet::read(b"T\nF\nM,1,0\nG,0\nE,0,1,0,0\nB,0,1\n").unwrap();
+/// assert_eq!(plain_row(&sheet).unwrap()[..4], [0, 0, 1, 0]);
+/// ```
+pub fn plain_row(sheet: &Sheet) -> Result<[u16; ROW], Refused> {
     boundary::plain_row(&sheet.table)
 }
 
@@ -155,7 +179,8 @@ pub fn plain_row(sheet: &Sheet) -> [u16; ROW] {
 /// use rozsvelen::{judge_part, plain_row, Sheet, Way};
 /// let sheet = Sheet::read(b"T\nP,1\nM,1,0\nG,0\nE,0,1,0,0\nD,0,1\n").unwrap();
 /// let mut words = [0u64; 2];
-/// let late = judge_part(&sheet, Way::Ahead, &plain_row(&sheet), &[2, 4], &mut words).unwrap();
+/// let plain = plain_row(&sheet).unwrap();
+/// let late = judge_part(&sheet, Way::Ahead, &plain, &[2, 4], &mut words).unwrap();
 /// assert_eq!(words.map(|w| w >> 2 & 1), [1, 0]);
 /// judge_part(&sheet, Way::Ahead, &late, &[1], &mut words).unwrap();
 /// assert_eq!(words[0] >> 2 & 1, 1);
@@ -165,7 +190,16 @@ pub fn judge_part(sheet: &Sheet, way: Way, row: &[u16; ROW], words: &[u32], verd
 }
 
 /// The edge numbers of the walk that shows node `node` at entry `entry`, in the first places of `edges`: the shortest, with the lowest edges.
-/// It ends where a D node's goal holds, or where a B node's goal fails. Gives how many edges it has.
+/// It ends where a D node's goal holds, or where a B node's goal fails. Gives how many edges it has. A refusal alters nothing.
+///
+/// ```
+/// use rozsvelen::{walk, Refused, Sheet};
+/// let sheet = Sheet::read(b"T\nP,1\nM,1,0\nG,0\nE,0,1,0,0\nD,0,1\n").unwrap();
+/// let mut edges = [9; 3];
+/// assert_eq!(walk(&sheet, &[0, 0, 2], 2, 0, &mut edges), Ok(2));
+/// assert_eq!(edges, [0, 0, 9]);
+/// assert_eq!(walk(&sheet, &[0, 0, 2], 1, 0, &mut edges), Err(Refused { number: 38, line: 0 }));
+/// ```
 pub fn walk(sheet: &Sheet, log: &[u32], node: u8, entry: u16, edges: &mut [u16]) -> Result<usize, Refused> {
     boundary::walk(&sheet.table, log, node, entry, edges)
 }

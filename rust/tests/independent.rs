@@ -242,6 +242,7 @@ fn table_case(random: &mut Random, kinds: &mut Kinds) {
     let given = sheets::given(&numbers).is_some();
     let answer = rozsvelen::judge(&Sheet::from_numbers(numbers), &[0], &mut [0]).map_err(no);
     assert_eq!(answer.is_ok(), given, "table {numbers:?}");
+    assert_eq!(rozsvelen::plain_row(&Sheet::from_numbers(numbers)).is_ok(), given, "table {numbers:?}");
     if given {
         kinds.saw("table given");
     } else {
@@ -305,7 +306,7 @@ fn long_run_case(random: &mut Random, kinds: &mut Kinds) {
 fn compare_run(random: &mut Random, kinds: &mut Kinds, parts: &[Vec<u32>]) -> usize {
     let ahead = random.one_in(2);
     let (ours, theirs) = both(&sheet(random, if ahead { Looks::Ahead } else { Looks::Back }));
-    let mut row = rozsvelen::plain_row(&ours);
+    let mut row = rozsvelen::plain_row(&ours).unwrap();
     assert_eq!(row, plain(&theirs));
     let mut joined: Vec<u32> = vec![];
     let mut verdicts: Vec<u64> = vec![];
