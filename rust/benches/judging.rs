@@ -125,10 +125,7 @@ fn reading_texts() {
     let mut table = [0u16; unproved::TABLE];
     let [proved, unproved] = time(
         1000,
-        [
-            &mut work(|| Sheet::read(black_box(sheet_text.as_bytes()))),
-            &mut work(|| reading::sheet(black_box(sheet_text.as_bytes()), &mut table)),
-        ],
+        [&mut work(|| Sheet::read(black_box(sheet_text.as_bytes()))), &mut work(|| reading::sheet(black_box(sheet_text.as_bytes()), &mut table))],
     );
     row("reading a sheet of 322 lines, 1,000 times", proved, &[("unproved, unchecked", unproved)]);
 }

@@ -138,7 +138,13 @@ fn compare_judging(random: &mut Random, kinds: &mut Kinds, text: &str, entries: 
     let before: Vec<u64> = (0..room as u64).map(|i| !i).collect();
     let mut buffer = before.clone();
     let held = rozsvelen::judge(&ours, &words, &mut buffer);
-    let question = if !(1..=512).contains(&entries) { 32 } else if room < entries { 33 } else { 0 };
+    let question = if !(1..=512).contains(&entries) {
+        32
+    } else if room < entries {
+        33
+    } else {
+        0
+    };
     if question != 0 {
         assert_eq!(held.map_err(no), Err((question, 0)));
         assert_eq!(buffer, before);
@@ -253,7 +259,13 @@ fn table_case(random: &mut Random, kinds: &mut Kinds) {
 
 fn part_case(random: &mut Random, kinds: &mut Kinds) {
     let ahead = random.one_in(2);
-    let looks = if random.one_in(6) { Looks::Both } else if ahead { Looks::Ahead } else { Looks::Back };
+    let looks = if random.one_in(6) {
+        Looks::Both
+    } else if ahead {
+        Looks::Ahead
+    } else {
+        Looks::Back
+    };
     let (ours, theirs) = both(&sheet(random, looks));
     let row: Row = std::array::from_fn(|_| random.next() as u16);
     let words = log_of_a_part(random);
@@ -269,12 +281,28 @@ fn log_of_a_part(random: &mut Random) -> Vec<u32> {
 }
 
 /// One part by both checkers: the verdicts and the row, where it is accepted.
-fn compare_part(ours: &Sheet, theirs: &sheets::Sheet, ahead: bool, row: Row, words: &[u32], room: usize, kinds: &mut Kinds) -> Option<(Vec<u64>, Row)> {
+fn compare_part(
+    ours: &Sheet,
+    theirs: &sheets::Sheet,
+    ahead: bool,
+    row: Row,
+    words: &[u32],
+    room: usize,
+    kinds: &mut Kinds,
+) -> Option<(Vec<u64>, Row)> {
     let before: Vec<u64> = (0..room as u64).map(|i| !i).collect();
     let mut buffer = before.clone();
     let way = if ahead { Way::Ahead } else { Way::Back };
     let answer = rozsvelen::judge_part(ours, way, &row, words, &mut buffer).map_err(no);
-    let question = if !theirs.looks_only(ahead) { 34 } else if words.len() > 512 { 32 } else if room < words.len() { 33 } else { 0 };
+    let question = if !theirs.looks_only(ahead) {
+        34
+    } else if words.len() > 512 {
+        32
+    } else if room < words.len() {
+        33
+    } else {
+        0
+    };
     if question != 0 {
         assert_eq!(answer, Err((question, 0)));
         assert_eq!(buffer, before);
@@ -286,7 +314,13 @@ fn compare_part(ours: &Sheet, theirs: &sheets::Sheet, ahead: bool, row: Row, wor
     assert_eq!(answer, Ok(next), "the row of a part, {theirs:?} words {words:?} row {row:?}");
     assert_eq!(buffer[..words.len()], judged.words(), "a part, {theirs:?} words {words:?} row {row:?}");
     assert_eq!(buffer[words.len()..], before[words.len()..]);
-    kinds.saw(if words.is_empty() { "part with 0 entries" } else if ahead { "part judged ahead" } else { "part judged back" });
+    kinds.saw(if words.is_empty() {
+        "part with 0 entries"
+    } else if ahead {
+        "part judged ahead"
+    } else {
+        "part judged back"
+    });
     Some((judged.words(), next))
 }
 
@@ -317,8 +351,11 @@ fn compare_run(random: &mut Random, kinds: &mut Kinds, parts: &[Vec<u32>]) -> us
             Some((part, next)) => {
                 row = next;
                 let (words, part) = (&words[..], &part[..]);
-                (joined, verdicts) =
-                    if ahead { ([words, &joined].concat(), [part, &verdicts].concat()) } else { ([&joined, words].concat(), [&verdicts, part].concat()) };
+                (joined, verdicts) = if ahead {
+                    ([words, &joined].concat(), [part, &verdicts].concat())
+                } else {
+                    ([&joined, words].concat(), [&verdicts, part].concat())
+                };
             }
         }
     }
@@ -348,7 +385,9 @@ fn limits(kinds: &mut Kinds) {
         let edges: String = (0..states).map(|s| format!("E,{s},0,0,{s}\n")).collect();
         compare_sheet((format!("T\nM,{states},0\n") + &edges + "T\n").as_bytes(), kinds);
     }
-    for (text, fill) in [("T\nG,0\n", ""), ("T\nM,1,0\nG,0\nG,0\n", ""), ("T\nM,1,0\nE,0,0,0,0\n", ""), ("M,1,0\nT\n", ""), (MODAL_STEP, ""), ("", "T\n")] {
+    for (text, fill) in
+        [("T\nG,0\n", ""), ("T\nM,1,0\nG,0\nG,0\n", ""), ("T\nM,1,0\nE,0,0,0,0\n", ""), ("M,1,0\nT\n", ""), (MODAL_STEP, ""), ("", "T\n")]
+    {
         compare_sheet(text.as_bytes(), kinds);
         for bytes in [49_152, 49_153, 49_154] {
             let mut long = text.as_bytes().to_vec();
