@@ -1,34 +1,6 @@
-//! The C functions of the static library, and what their answers mean. Nothing else in this crate is unsafe.
+//! Calls of the static library on slices, and what their answers mean. Nothing else in this crate is unsafe.
+use crate::calls::*;
 use crate::{Refused, Way, ROW, TABLE};
-
-extern "C" {
-    fn rozsvelen_read_sheet(text: *const u8, text_len: usize, table: *mut u16, table_len: usize) -> u64;
-    fn rozsvelen_read_log(text: *const u8, text_len: usize, words: *mut u32, words_len: usize) -> u64;
-    fn rozsvelen_judge(table: *const u16, table_len: usize, log: *const u32, log_len: usize, verdicts: *mut u64, verdicts_len: usize) -> u64;
-    fn rozsvelen_plain_row(table: *const u16, table_len: usize, row: *mut u16, row_len: usize) -> u64;
-    fn rozsvelen_judge_part(
-        table: *const u16,
-        table_len: usize,
-        way: u8,
-        row: *mut u16,
-        row_len: usize,
-        words: *const u32,
-        words_len: usize,
-        verdicts: *mut u64,
-        verdicts_len: usize,
-    ) -> u64;
-    fn rozsvelen_walk(
-        table: *const u16,
-        table_len: usize,
-        log: *const u32,
-        log_len: usize,
-        node: u8,
-        entry: u16,
-        edges: *mut u16,
-        edges_len: usize,
-    ) -> u64;
-    fn rozsvelen_page(rules: *const u8, rules_len: usize, steps: *const u8, steps_len: usize, page: *mut u8, page_len: usize) -> u64;
-}
 
 /// At most so many bytes on a page.
 const PAGE: usize = 40_000;

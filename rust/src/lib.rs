@@ -21,6 +21,7 @@
 #![warn(missing_docs)]
 
 mod boundary;
+mod calls;
 
 use std::error::Error;
 use std::fmt;

@@ -1,24 +1,11 @@
 //! What only a caller of the C functions can do: lend slices of other lengths, numbers that are no table's, and other numbers for the way.
 use rozsvelen::{Sheet, ENTRIES, ROW, TABLE};
 
-// The crate links the archive.
-extern "C" {
-    fn rozsvelen_read_sheet(text: *const u8, text_len: usize, table: *mut u16, table_len: usize) -> u64;
-    fn rozsvelen_judge(table: *const u16, table_len: usize, log: *const u32, log_len: usize, verdicts: *mut u64, verdicts_len: usize) -> u64;
-    fn rozsvelen_plain_row(table: *const u16, table_len: usize, row: *mut u16, row_len: usize) -> u64;
-    fn rozsvelen_judge_part(
-        table: *const u16,
-        table_len: usize,
-        way: u8,
-        row: *mut u16,
-        row_len: usize,
-        words: *const u32,
-        words_len: usize,
-        verdicts: *mut u64,
-        verdicts_len: usize,
-    ) -> u64;
-    fn rozsvelen_page(rules: *const u8, rules_len: usize, steps: *const u8, steps_len: usize, page: *mut u8, page_len: usize) -> u64;
-}
+#[path = "../src/calls.rs"]
+#[allow(dead_code)]
+mod calls;
+
+use calls::*;
 
 const W: &[u8] = b"T\nP,1\nM,1,0\nG,0\nE,0,1,0,0\nD,0,1\n";
 

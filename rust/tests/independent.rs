@@ -266,12 +266,11 @@ fn part_case(random: &mut Random, kinds: &mut Kinds) {
     } else {
         Looks::Back
     };
-    let (ours, theirs) = both(&sheet(random, looks));
+    let read = both(&sheet(random, looks));
     let row: Row = std::array::from_fn(|_| random.next() as u16);
     let words = log_of_a_part(random);
-    match compare_part(&ours, &theirs, ahead, row, &words, words.len() + 1, kinds) {
-        Some(_) => kinds.saw("part with a wrong row"),
-        None => (),
+    if compare_part(&read, Part { ahead, row, words: &words, room: words.len() + 1 }, kinds).is_some() {
+        kinds.saw("part with a wrong row");
     }
 }
 
@@ -280,16 +279,17 @@ fn log_of_a_part(random: &mut Random) -> Vec<u32> {
     log(random, entries)
 }
 
-/// One part by both checkers: the verdicts and the row, where it is accepted.
-fn compare_part(
-    ours: &Sheet,
-    theirs: &sheets::Sheet,
+/// A part to be judged: which way, the row beside it, its words, and how many places are lent for its verdicts.
+struct Part<'a> {
     ahead: bool,
     row: Row,
-    words: &[u32],
+    words: &'a [u32],
     room: usize,
-    kinds: &mut Kinds,
-) -> Option<(Vec<u64>, Row)> {
+}
+
+/// One part by both checkers: the verdicts and the row, where it is accepted.
+fn compare_part((ours, theirs): &(Sheet, sheets::Sheet), part: Part, kinds: &mut Kinds) -> Option<(Vec<u64>, Row)> {
+    let Part { ahead, row, words, room } = part;
     let before: Vec<u64> = (0..room as u64).map(|i| !i).collect();
     let mut buffer = before.clone();
     let way = if ahead { Way::Ahead } else { Way::Back };
@@ -339,14 +339,15 @@ fn long_run_case(random: &mut Random, kinds: &mut Kinds) {
 /// A run over these parts, some of them lent too short a buffer; how many entries the joined log has.
 fn compare_run(random: &mut Random, kinds: &mut Kinds, parts: &[Vec<u32>]) -> usize {
     let ahead = random.one_in(2);
-    let (ours, theirs) = both(&sheet(random, if ahead { Looks::Ahead } else { Looks::Back }));
-    let mut row = rozsvelen::plain_row(&ours).unwrap();
-    assert_eq!(row, plain(&theirs));
+    let read = both(&sheet(random, if ahead { Looks::Ahead } else { Looks::Back }));
+    let (ours, theirs) = &read;
+    let mut row = rozsvelen::plain_row(ours).unwrap();
+    assert_eq!(row, plain(theirs));
     let mut joined: Vec<u32> = vec![];
     let mut verdicts: Vec<u64> = vec![];
     for words in parts {
         let room = if random.one_in(5) { words.len() / 2 } else { words.len() + random.below(3) };
-        match compare_part(&ours, &theirs, ahead, row, words, room, kinds) {
+        match compare_part(&read, Part { ahead, row, words, room }, kinds) {
             None => kinds.saw("run with a refused call"),
             Some((part, next)) => {
                 row = next;
@@ -359,7 +360,7 @@ fn compare_run(random: &mut Random, kinds: &mut Kinds, parts: &[Vec<u32>]) -> us
             }
         }
     }
-    let whole = Judged::new(&theirs, &joined, plain(&theirs));
+    let whole = Judged::new(theirs, &joined, plain(theirs));
     assert_eq!(verdicts, whole.words(), "a run, {theirs:?} joined {joined:?}");
     assert_eq!(row, whole.next_row(ahead), "a run's row, {theirs:?} joined {joined:?}");
     kinds.saw("run equal to the whole log");

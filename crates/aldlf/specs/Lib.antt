@@ -6,3 +6,4 @@ pub mod Verdict
 pub mod Outcomes
 pub mod Run
 pub mod Walks
+pub mod Jobs

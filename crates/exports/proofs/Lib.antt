@@ -8,3 +8,4 @@ pub mod Sheets
 pub mod Logs
 pub mod Judging
 pub mod Walks
+pub mod Apart

@@ -2,14 +2,14 @@
 use Prim.Native.Nat.{ℕ, zero, suc, _≤_}
 use mathlib.Core.Path.{_≡_, refl, ap, sym, _∙_}
 use mathlib.Core.Bool.{Bool, true, false}
-use mathlib.Core.List.{List, [], _∷_, _++_}
+use mathlib.Core.List.{List, _++_}
 use native.Mathlib.Omega.{arith}
 use borrow.Author.Tests.{leb-true, eqb-false}
 use lib.ListN.{length, take, drop, length-append}
 use lib.Seq.{take-at}
 use lib.Dec.{eqb, leb}
 use Rattle.aldlf.specs.Sheet.{Sheet}
-use Rattle.aldlf.specs.Outcomes.{Whole, firstNo, logFits, logWords, heldIn, wholeNumber, wholeOutcome}
+use Rattle.aldlf.specs.Outcomes.{Whole, logFits, logWords, heldIn, wholeNumber, wholeOutcome}
 use Rattle.aldlf.specs.Walks.{Shown}
 use Rattle.walk.specs.Answer as walk
 use Rattle.walk.specs.declared.WalkAnswer.{WalkAnswer}
@@ -18,6 +18,7 @@ use Rattle.joblog.specs.Log.{LogRead, entries, refused, answerOf, storedIn}
 use Rattle.joblog.specs.declared.LogAnswer.{LogAnswer}
 use Rattle.joblog.specs.declared.LogAnswer.the-variants as log
 use Rattle.judge.specs.Answers.{wholeOf, isHeld}
+use Rattle.judge.proofs.QuestionLaws.{three-yes}
 use Rattle.judge.specs.declared.Judged.{Judged}
 use Rattle.judge.specs.declared.Judged.the-variants as judged
 use Rattle.report.specs.Lines.{refusalLine, verdictLines, walkLine}
@@ -34,13 +35,6 @@ log-entries (refused q k) a n old new r e h = let z : _≡_ {A = ℕ} 0 1 = cc i
 pub log-refused : (X : LogRead) (a : LogAnswer) (q k : ℕ) → a ≡ log.Refused q k → a ≡ answerOf X → X ≡ refused q k
 log-refused (entries ws) a q k r e = let z : _≡_ {A = ℕ} 0 1 = cc in absurd (omega arith)
 log-refused (refused q′ k′) a q k r e = let u : q′ ≡ q = cc in let v : k′ ≡ k = cc in rw (u, v)
-
--- questions that all get a yes
-yes-3 : (a b c : Bool) (p q r : ℕ) → firstNo ((a, suc p) ∷ (b, suc q) ∷ (c, suc r) ∷ []) ≡ 0 → (a ≡ true) × (b ≡ true) × (c ≡ true)
-yes-3 true true true p q r e = (refl, refl, refl)
-yes-3 true true false p q r e = absurd (omega arith)
-yes-3 true false c p q r e = absurd (omega arith)
-yes-3 false b c p q r e = absurd (omega arith)
 
 refused-line : (rule n : ℕ) (rest : List ℕ) (q : ℕ) (new : List ℕ) → (q ≡ 0 → ⊥) → refusalLine q 0 ≡ judgedPage rule n rest (record { number = q; held = 0; buffer = new })
 unfolding judgedPage
@@ -67,7 +61,7 @@ module _ (given : Bool) (S : Sheet) (log buffer : List ℕ) where
   -- an accepted judging: questions 31 to 33 get a yes
   pub whole-yes : wholeOutcome given S log buffer .number ≡ 0 → (given ≡ true) × (logFits log ≡ true) × (leb (length log) (length buffer) ≡ true)
   unfolding wholeNumber
-  whole-yes e = yes-3 given (logFits log) (leb (length log) (length buffer)) 30 31 32 (sym whole-number ∙ e)
+  whole-yes e = three-yes given (logFits log) (leb (length log) (length buffer)) (sym whole-number ∙ e)
 
   pub whole-held : wholeOutcome given S log buffer .number ≡ 0 → wholeOutcome given S log buffer .held ≡ heldIn S log
   unfolding wholeOutcome

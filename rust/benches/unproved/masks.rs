@@ -14,7 +14,7 @@ pub fn part(t: &[u16; TABLE], log: &[u32], verdicts: &mut [u64], row: Option<&[u
         let all = ((1u32 << m.states) - 1) as u16;
         let exits = row.map_or(0, |r| if some { r[k] } else { !r[k] } & all);
         let masks = &mut masks[..log.len()];
-        mark(&m, x.b, some, exits, words, masks);
+        mark(&m, Goal { node: x.b, some, exits }, words, masks);
         for (w, mask) in words.iter_mut().zip(masks.iter()) {
             *w |= (((mask >> m.start & 1 == 1) == some) as u64) << k;
         }
@@ -24,13 +24,20 @@ pub fn part(t: &[u16; TABLE], log: &[u32], verdicts: &mut [u64], row: Option<&[u
     Some((held, next))
 }
 
+/// What is to be reached: an accepting state where the node holds (`some`) or fails, or outside one of the exits.
+struct Goal {
+    node: u8,
+    some: bool,
+    exits: u16,
+}
+
 /// An entry is closed from its own mask and those beside it. A cursor goes against the edges, and one place back after each change; a flag says which
 /// entries are to be visited again.
-fn mark(m: &Automaton, goal: u8, some: bool, exits: u16, words: &[u64], masks: &mut [u16]) {
+fn mark(m: &Automaton, goal: Goal, words: &[u64], masks: &mut [u16]) {
     let n = masks.len();
     let mut todo = [true; 512];
     for (mask, w) in masks.iter_mut().zip(words) {
-        *mask = if (w >> goal & 1 == 1) == some { m.accepting } else { 0 };
+        *mask = if (w >> goal.node & 1 == 1) == goal.some { m.accepting } else { 0 };
     }
     let [mut tests, mut aheads, mut backs] = [false; 3];
     for e in m.edges.chunks_exact(4) {
@@ -48,9 +55,9 @@ fn mark(m: &Automaton, goal: u8, some: bool, exits: u16, words: &[u64], masks: &
             continue;
         }
         todo[i] = false;
-        let ahead = if i + 1 < n { masks[i + 1] } else { exits };
-        let behind = if i > 0 { masks[i - 1] } else { exits };
-        let mask = close(m.edges, tests, words[i], ahead, behind, masks[i]);
+        let ahead = if i + 1 < n { masks[i + 1] } else { goal.exits };
+        let behind = if i > 0 { masks[i - 1] } else { goal.exits };
+        let mask = close(m.edges, tests, words[i], [ahead, behind], masks[i]);
         if mask != masks[i] {
             masks[i] = mask;
             if backs && i + 1 < n {
@@ -64,7 +71,7 @@ fn mark(m: &Automaton, goal: u8, some: bool, exits: u16, words: &[u64], masks: &
     }
 }
 
-fn close(edges: &[u16], tests: bool, word: u64, ahead: u16, behind: u16, start: u16) -> u16 {
+fn close(edges: &[u16], tests: bool, word: u64, beside: [u16; 2], start: u16) -> u16 {
     let mut mask = start;
     loop {
         let before = mask;
@@ -74,8 +81,8 @@ fn close(edges: &[u16], tests: bool, word: u64, ahead: u16, behind: u16, start: 
             }
             let side = match e[1] {
                 0 => mask,
-                1 => ahead,
-                _ => behind,
+                1 => beside[0],
+                _ => beside[1],
             };
             if side >> e[3] & 1 == 1 {
                 mask |= 1 << e[0];

@@ -6,25 +6,31 @@ pub fn judge(t: &[u16; TABLE], log: &[u32], verdicts: &mut [u64]) -> Option<usiz
     let mut queue = Vec::with_capacity(16 * log.len());
     each_node(t, log, verdicts, |k, x, m, words| {
         let some = x.letter == b'D';
-        mark(&m, x.b, some, words, &mut marks, &mut queue);
+        seed(&m, (x.b, some), words, &mut marks, &mut queue);
+        spread(&m, words, &mut marks, &mut queue);
         for (w, mark) in words.iter_mut().zip(&marks) {
             *w |= (((mark >> m.start & 1 == 1) == some) as u64) << k;
         }
     })
 }
 
-fn mark(m: &Automaton, goal: u8, some: bool, words: &[u64], marks: &mut [u16], queue: &mut Vec<(u16, u16)>) {
+/// The accepting states where the node is as wanted.
+fn seed(m: &Automaton, (node, some): (u8, bool), words: &[u64], marks: &mut [u16], queue: &mut Vec<(u16, u16)>) {
+    queue.clear();
+    for (i, w) in words.iter().enumerate() {
+        marks[i] = if (w >> node & 1 == 1) == some { m.accepting } else { 0 };
+        for s in (0..16).filter(|s| marks[i] >> s & 1 == 1) {
+            queue.push((s, i as u16));
+        }
+    }
+}
+
+/// Backward from the queued configurations.
+fn spread(m: &Automaton, words: &[u64], marks: &mut [u16], queue: &mut Vec<(u16, u16)>) {
     // the edges that enter each state
     let mut into: [Vec<[u16; 3]>; 16] = Default::default();
     for e in m.edges.chunks_exact(4) {
         into[e[3] as usize].push([e[0], e[1], e[2]]);
-    }
-    queue.clear();
-    for (i, w) in words.iter().enumerate() {
-        marks[i] = if (w >> goal & 1 == 1) == some { m.accepting } else { 0 };
-        for s in (0..16).filter(|s| marks[i] >> s & 1 == 1) {
-            queue.push((s, i as u16));
-        }
     }
     while let Some((u, j)) = queue.pop() {
         for [from, dir, test] in &into[u as usize] {

@@ -1,8 +1,7 @@
 -- `rozsvelen_page` meets its contract: the page's own, and no page has as many as 65,536 bytes. Assumes nothing.
 use native.Mathlib.Omega.{arith}
-use denote.Ref.{now}
 use borrow.Author.Needs.{needs}
-use Rattle.report.proofs.Fits.{page-fits}
+use Rattle.exports.proofs.Apart.{page-count}
 use Rattle.exports.specs.Showing.{pageOutcome}
 use Rattle.exports.proofs.rozsvelen_page.Statement.{statement}
 use Rattle.exports.proofs.rozsvelen_page.Tie as tie
@@ -11,9 +10,7 @@ page-requires : tie.Need-page-requires
 page-requires c κs = search needs
 
 code-requires : tie.Need-code-requires
-code-requires c κs =
-    let a = c .before .before .before .before .before .before .before .args in
-    (omega arith, omega (arith, c .before .before .page .ensures .0, page-fits (now (a .rules)) (now (a .steps))))
+code-requires c κs = (omega arith, omega (arith, page-count _ _ _ _ (c .before .before .page .ensures .0)))
 
 same-length : tie.Need-same-length
 same-length c = search needs

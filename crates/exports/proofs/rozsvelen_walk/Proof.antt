@@ -20,7 +20,7 @@ code-requires : tie.Need-code-requires
 code-requires c κs =
     let a = c .before .before .before .before .before .before .before .before .before .before .before .args in
     let w = c .before .before .before .before .before .walk in
-    let few = told-count (c .before .before .before .before .before .before .before .table-of .result) (now (a .log)) (a .node) (a .entry) (now (a .edges)) _ (w .result) (w .ensures) (c .before .r .given .0 .0) (c .before .r .given .1) in
+    let few = told-count (c .before .before .before .before .before .before .before .table-of .result) (now (a .log)) _ _ (now (a .edges)) _ (w .result) (w .ensures) (c .before .r .given .0 .0) (c .before .r .given .1) in
     (omega arith, omega (arith, few .1))
 
 enum-known-r-2 : tie.Need-enum-known-r-2

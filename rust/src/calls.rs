@@ -1,0 +1,29 @@
+//! The C functions of the static library, as `include/rozsvelen.h` has them. A slice is a pointer and how many elements it has.
+extern "C" {
+    pub fn rozsvelen_read_sheet(text: *const u8, text_len: usize, table: *mut u16, table_len: usize) -> u64;
+    pub fn rozsvelen_read_log(text: *const u8, text_len: usize, words: *mut u32, words_len: usize) -> u64;
+    pub fn rozsvelen_judge(table: *const u16, table_len: usize, log: *const u32, log_len: usize, verdicts: *mut u64, verdicts_len: usize) -> u64;
+    pub fn rozsvelen_plain_row(table: *const u16, table_len: usize, row: *mut u16, row_len: usize) -> u64;
+    pub fn rozsvelen_judge_part(
+        table: *const u16,
+        table_len: usize,
+        way: u8,
+        row: *mut u16,
+        row_len: usize,
+        words: *const u32,
+        words_len: usize,
+        verdicts: *mut u64,
+        verdicts_len: usize,
+    ) -> u64;
+    pub fn rozsvelen_walk(
+        table: *const u16,
+        table_len: usize,
+        log: *const u32,
+        log_len: usize,
+        node: u8,
+        entry: u16,
+        edges: *mut u16,
+        edges_len: usize,
+    ) -> u64;
+    pub fn rozsvelen_page(rules: *const u8, rules_len: usize, steps: *const u8, steps_len: usize, page: *mut u8, page_len: usize) -> u64;
+}
