@@ -7,7 +7,7 @@ use Rattle.aldlf.specs.Walks.{Shown, walkOutcome}
 use Rattle.sheet.specs.Given.{wellFormed}
 use Rattle.report.specs.Lines.{printedIn}
 use Rattle.report.specs.Page.{pageOf}
-use Rattle.exports.specs.Numbers.{tableOf}
+use Rattle.crossing.specs.Numbers.{tableOf}
 use Rattle.exports.specs.Answers.{answerCode, accepted, Outcome, outcome}
 
 -- showing a walk: how many edges it has
