@@ -18,7 +18,7 @@ use Rattle.joblog.specs.Log as log
 use Rattle.joblog.specs.Log.{entries, readLog, readOutcome}
 use Rattle.joblog.proofs.Told.{told-read}
 use Rattle.joblog.specs.declared.LogAnswer.{LogAnswer}
-use Rattle.joblog.specs.declared.LogAnswer.the-variants as log′
+use Rattle.joblog.specs.declared.LogAnswer.the-variants as logged
 use Rattle.judge.specs.Answers.{wholeOf, isHeld}
 use Rattle.judge.proofs.QuestionLaws.{three-yes}
 use Rattle.judge.specs.declared.Judged.{Judged}
@@ -27,7 +27,7 @@ use Rattle.lines.specs.Lines.{refusalLine, verdictLines, walkLine}
 use Rattle.report.specs.Page.{refusedWalk, shownLine, judgedPage}
 
 -- a log that was read to the first words of a buffer
-pub log-entries : (text old new : List ℕ) (a : LogAnswer) (n : ℕ) → log.answerOf a new ≡ readOutcome text old → a ≡ log′.Read n → (n ≤ length new) × (readLog text (length old) ≡ entries (take n new))
+pub log-entries : (text old new : List ℕ) (a : LogAnswer) (n : ℕ) → log.answerOf a new ≡ readOutcome text old → a ≡ logged.Read n → (n ≤ length new) × (readLog text (length old) ≡ entries (take n new))
 log-entries text old new a n is r =
     let t = told-read text old new a n is r in
     let ws = t .words in
