@@ -22,7 +22,7 @@ use Rattle.judge.specs.declared.PartAnswer.{PartAnswer}
 use Rattle.judge.specs.Answers.{wholeOf, partOf, plainRowOf}
 use Rattle.report.proofs.Answers.{whole-yes, whole-held}
 use Rattle.report.proofs.Numbers.{held-le}
-use Rattle.exports.specs.Numbers.{tableOf, rowOf}
+use Rattle.crossing.specs.Numbers.{tableOf, rowOf}
 use Rattle.exports.specs.Answers.{answerCode, accepted, refusal, outcome}
 use Rattle.exports.specs.Judging.{judged, judgeOutcome, plainInto, plainOutcome, wayOf, partEnds, partJudged, judgePartOutcome}
 use Rattle.exports.proofs.Sheets.{short-is, long-is}

@@ -1,9 +1,3 @@
-pub mod Listed
-pub mod Packed
-pub mod Unpacked
-pub mod Copied
-pub mod Crossing
-pub mod GivenTables
 pub mod Sheets
 pub mod Logs
 pub mod Judging

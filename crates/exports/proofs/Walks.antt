@@ -10,7 +10,7 @@ use Rattle.walk.specs.declared.WalkAnswer.{WalkAnswer}
 use Rattle.walk.specs.declared.WalkAnswer.the-variants as walked
 use Rattle.walk.specs.Answer.{answerOf}
 use Rattle.walk.proofs.Told.{told-refused}
-use Rattle.exports.specs.Numbers.{tableOf}
+use Rattle.crossing.specs.Numbers.{tableOf}
 use Rattle.exports.specs.Answers.{accepted, refusal, outcome}
 use Rattle.exports.specs.Showing.{shown, walkShown}
 

@@ -4,10 +4,10 @@ use mathlib.Core.Bool.{cond}
 use mathlib.Core.List.{List}
 use lib.Dec.{eqb}
 use lib.ListN.{length}
-use Rattle.joblog.specs.Log.{LogRead, entries, refused, readLog, storedIn}
+use Rattle.joblog.specs.Log.{LogOutcome, readOutcome}
 use Rattle.sheet.specs.declared.SheetAnswer.{SheetAnswer}
 use Rattle.sheet.specs.Questions.{readSheet}
-use Rattle.exports.specs.Numbers.{tableSize, tableNumbers}
+use Rattle.crossing.specs.Numbers.{tableSize, tableNumbers}
 
 -- the low 16 bits are the count, the next 16 the number of the question that got a no (0: accepted), the upper 32 the line
 unfoldable pub answerCode : (number line count : ℕ) → ℕ
@@ -40,11 +40,10 @@ readInto table a = outcome (answerCode (a .number) (a .line) 0) (cond (eqb (a .n
 unfoldable pub sheetOutcome : (text table : List ℕ) → Outcome
 sheetOutcome text table = ofLength tableSize table (readInto table (readSheet text))
 
--- a log as read: how many entries, or the question's number and the line
-unfoldable pub logCode : LogRead → ℕ
-logCode (entries ws) = accepted (length ws)
-logCode (refused q k) = answerCode q k 0
+-- a log as read: its number, its line, and how many entries
+abbrev pub logged : LogOutcome → Outcome
+logged o = outcome (answerCode (o .number) (o .line) (o .count)) (o .buffer)
 
 -- reading a log into lent words
 unfoldable pub logOutcome : (text words : List ℕ) → Outcome
-logOutcome text words = let r = readLog text (length words) in outcome (logCode r) (storedIn r words)
+logOutcome text words = logged (readOutcome text words)

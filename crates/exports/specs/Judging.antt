@@ -11,7 +11,7 @@ use Rattle.aldlf.specs.declared.Table.{Table}
 use Rattle.aldlf.specs.declared.Way.{Way}
 use Rattle.aldlf.specs.declared.Way.the-variants.{Ahead, Back}
 use Rattle.sheet.specs.Given.{wellFormed}
-use Rattle.exports.specs.Numbers.{tableOf, rowOf}
+use Rattle.crossing.specs.Numbers.{tableOf, rowOf}
 use Rattle.exports.specs.Answers.{answerCode, accepted, refusal, Outcome, outcome, ofLength}
 
 -- judging a whole log: the count held

@@ -5,9 +5,9 @@ use lib.ListN.{length}
 use Rattle.aldlf.specs.Sheet.{sheetOf}
 use Rattle.aldlf.specs.Walks.{Shown, walkOutcome}
 use Rattle.sheet.specs.Given.{wellFormed}
-use Rattle.report.specs.Lines.{printedIn}
+use Rattle.appending.specs.Appending.{printedIn}
 use Rattle.report.specs.Page.{pageOf}
-use Rattle.exports.specs.Numbers.{tableOf}
+use Rattle.crossing.specs.Numbers.{tableOf}
 use Rattle.exports.specs.Answers.{answerCode, accepted, Outcome, outcome}
 
 -- showing a walk: how many edges it has

@@ -1,21 +1,18 @@
 // The calls for C and Rust: numbers and slices. Each answers one number (specs/Answers.antt, `answerCode`); a table crosses as
-// 1,315 numbers and a row as 64 (specs/Numbers.antt).
+// 1,315 numbers and a row as 64 (crossing's specs/Numbers.antt).
 mod answer;
-mod pack;
-mod rows;
-mod unpack;
 
 use aldlf::Entry;
 use aldlf::Node;
 use aldlf::Way;
 use answer::code;
+use crossing::pack::TABLE;
+use crossing::pack::put_table;
+use crossing::rows::put_row;
+use crossing::rows::row_of;
+use crossing::unpack::table_of;
 use joblog::LogAnswer;
 use judge::Judged;
-use pack::TABLE;
-use pack::put_table;
-use rows::put_row;
-use rows::row_of;
-use unpack::table_of;
 use walk::WalkAnswer;
 ghost use mathlib.Core.Path.{_≡_};
 ghost use Rattle.exports.specs.Answers.{outcome, sheetOutcome, logOutcome};

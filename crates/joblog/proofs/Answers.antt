@@ -1,18 +1,16 @@
--- What a caller may take from an answer Read(n): n is at least 1, within the limit and the buffer, and the first n words of the buffer are the log's.
+-- A log that was read got a yes to each question: it has an entry, and keeps within the limit and the buffer.
 use Prim.Native.Nat.{ℕ, _+_, _≤_, _<_}
 use mathlib.Core.Path.{_≡_, refl, ap, sym, _∙_}
 use mathlib.Core.List.{List, [], _∷_}
 use mathlib.Core.Bool.{Bool, true, false}
 use native.Mathlib.Omega.{arith}
 use lib.ListN.{length, take, drop}
-use lib.Seq.{take-at}
 use lib.Dec.{ltb, leb}
 use borrow.Author.Tests.{ltb-true, leb-true}
 use Rattle.aldlf.specs.Constants.{entryLimit}
 use Rattle.text.specs.Text.{byteLimit, lf, lines, endsInLF, upTo}
 use Rattle.text.proofs.Lines.{lines-step}
-use Rattle.joblog.specs.declared.LogAnswer.the-variants.{Read}
-use Rattle.joblog.specs.Log.{LogRead, entries, refused, choose, entry, factsOf, readLines, fits, readLog, answerOf, storedIn}
+use Rattle.joblog.specs.Log.{LogRead, entries, refused, choose, entry, factsOf, readLines, fits, readLog}
 use Rattle.joblog.proofs.Storing.{first-word}
 
 -- lines read after k others keep within the limit
@@ -55,33 +53,18 @@ asked-go room ws r true true h = (refl, fitting room ws r h)
 asked-go room ws r true false h = let z : _≡_ {A = ℕ} 0 1 = cc in absurd (omega arith)
 asked-go room ws r false b h = let z : _≡_ {A = ℕ} 0 1 = cc in absurd (omega arith)
 
--- the answer Read(n) to a log that is read with the buffer `old`
-pub record Accepted (text old : List ℕ) (n : ℕ) : Type 0 where
-  pub words : List ℕ
-  pub read : readLog text (length old) ≡ entries words
-  pub count : n ≡ length words
-  pub some : 1 ≤ n
-  pub limit : n ≤ entryLimit
-  pub room : n ≤ length old
-  pub first : take n (storedIn (readLog text (length old)) old) ≡ words
+-- the words of a log that is read with the buffer `old`
+pub record Accepted (text old words : List ℕ) : Type 0 where
+  pub some : 1 ≤ length words
+  pub limit : length words ≤ entryLimit
+  pub room : length words ≤ length old
 
-accepted-go : (text old ws : List ℕ) → readLog text (length old) ≡ entries ws → Accepted text old (length ws)
+pub accepted : (text old ws : List ℕ) → readLog text (length old) ≡ entries ws → Accepted text old ws
 unfolding readLog
-accepted-go text old ws e =
+accepted text old ws e =
     let a = asked-go (length old) ws (readLines 0 (lines text)) (leb (length text) byteLimit) (endsInLF text) e in
     record {
-      words = ws;
-      read = e;
-      count = refl;
       some = some-word text ws (a .0) (a .1 .0);
       limit = omega (arith, within-limit 0 (lines text) ws (omega arith) (a .1 .0));
       room = a .1 .1;
-      first = ap (λ (r : LogRead). take (length ws) (storedIn r old)) e ∙ take-at ws (drop (length ws) old) (length ws) refl;
     }
-
-answer-go : (text old : List ℕ) (n : ℕ) (r : LogRead) → readLog text (length old) ≡ r → answerOf r ≡ Read n → Accepted text old n
-answer-go text old n (entries ws) e h = let z : length ws ≡ n = cc in rw (← z) (accepted-go text old ws e)
-answer-go text old n (refused q k) e h = let z : _≡_ {A = ℕ} 0 1 = cc in absurd (omega arith)
-
-pub accepted : (text old : List ℕ) (n : ℕ) → answerOf (readLog text (length old)) ≡ Read n → Accepted text old n
-accepted text old n h = answer-go text old n (readLog text (length old)) refl h

@@ -9,3 +9,4 @@ pub mod Storing
 pub mod Questions
 pub mod Worked
 pub mod Answers
+pub mod Told

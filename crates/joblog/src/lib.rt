@@ -3,7 +3,7 @@ ghost use mathlib.Core.Path.{_≡_};
 ghost use lib.ListN.{length, drop};
 ghost use mathlib.Core.List.{_++_};
 ghost use Rattle.text.specs.Text.{lines};
-ghost use Rattle.joblog.specs.Log.{readLines, readLog, answerOf, storedIn};
+ghost use Rattle.joblog.specs.Log.{readLines, answerOf, readOutcome};
 ghost use Rattle.joblog.specs.Steps.{wordsOf, Fitting};
 
 pub mod facts;
@@ -19,7 +19,7 @@ pub enum LogAnswer {
 // Questions 21 to 27 of a log, and its words in the first places of `words`: bit f of a word is fact f.
 // Every question has its yes before the first word is stored, so a refusal alters nothing.
 pub fn read_log(text: &[u8], words: &mut [u32]) -> LogAnswer
-    ensures { λ r. ⌜ (r ≡ answerOf (readLog (now (text .entry)) (length (now (words .entry))))) × (now (words .exit) ≡ storedIn (readLog (now (text .entry)) (length (now (words .entry)))) (now (words .entry))) ⌝ }
+    ensures { λ r. ⌜ answerOf r (now (words .exit)) ≡ readOutcome (now (text .entry)) (now (words .entry)) ⌝ }
 {
     if text::BYTES < text.len() {
         return LogAnswer::Refused(21, 0);

@@ -14,27 +14,24 @@ use Rattle.aldlf.specs.Walks.{Shown}
 use Rattle.walk.specs.Answer as walk
 use Rattle.walk.specs.declared.WalkAnswer.{WalkAnswer}
 use Rattle.walk.specs.declared.WalkAnswer.the-variants as walked
-use Rattle.joblog.specs.Log.{LogRead, entries, refused, answerOf, storedIn}
+use Rattle.joblog.specs.Log as log
+use Rattle.joblog.specs.Log.{entries, readLog, readOutcome}
+use Rattle.joblog.proofs.Told.{told-read}
 use Rattle.joblog.specs.declared.LogAnswer.{LogAnswer}
-use Rattle.joblog.specs.declared.LogAnswer.the-variants as log
+use Rattle.joblog.specs.declared.LogAnswer.the-variants as logged
 use Rattle.judge.specs.Answers.{wholeOf, isHeld}
 use Rattle.judge.proofs.QuestionLaws.{three-yes}
 use Rattle.judge.specs.declared.Judged.{Judged}
 use Rattle.judge.specs.declared.Judged.the-variants as judged
-use Rattle.report.specs.Lines.{refusalLine, verdictLines, walkLine}
+use Rattle.lines.specs.Lines.{refusalLine, verdictLines, walkLine}
 use Rattle.report.specs.Page.{refusedWalk, shownLine, judgedPage}
 
--- a log that was read
-pub log-entries : (X : LogRead) (a : LogAnswer) (n : ℕ) (old new : List ℕ) → a ≡ log.Read n → a ≡ answerOf X → new ≡ storedIn X old → (n ≤ length new) × (X ≡ entries (take n new))
-log-entries (entries ws) a n old new r e h =
-    let l : n ≡ length ws = cc in
-    (omega (arith, l, ap length h, length-append ws (drop (length ws) old)), ap entries (sym (ap (take n) h ∙ take-at ws (drop (length ws) old) n (sym l))))
-log-entries (refused q k) a n old new r e h = let z : _≡_ {A = ℕ} 0 1 = cc in absurd (omega arith)
-
--- a log that was refused
-pub log-refused : (X : LogRead) (a : LogAnswer) (q k : ℕ) → a ≡ log.Refused q k → a ≡ answerOf X → X ≡ refused q k
-log-refused (entries ws) a q k r e = let z : _≡_ {A = ℕ} 0 1 = cc in absurd (omega arith)
-log-refused (refused q′ k′) a q k r e = let u : q′ ≡ q = cc in let v : k′ ≡ k = cc in rw (u, v)
+-- a log that was read to the first words of a buffer
+pub log-entries : (text old new : List ℕ) (a : LogAnswer) (n : ℕ) → log.answerOf a new ≡ readOutcome text old → a ≡ logged.Read n → (n ≤ length new) × (readLog text (length old) ≡ entries (take n new))
+log-entries text old new a n is r =
+    let t = told-read text old new a n is r in
+    let ws = t .words in
+    (omega (arith, t .count, ap length (t .stored), length-append ws (drop (length ws) old)), t .read ∙ ap entries (sym (ap (take n) (t .stored) ∙ take-at ws (drop (length ws) old) n (sym (t .count)))))
 
 refused-line : (rule n : ℕ) (rest : List ℕ) (q : ℕ) (new : List ℕ) → (q ≡ 0 → ⊥) → refusalLine q 0 ≡ judgedPage rule n rest (record { number = q; held = 0; buffer = new })
 unfolding judgedPage

@@ -1,5 +1,3 @@
-pub mod Storing
-pub mod Decimals
 pub mod Pages
 pub mod Answers
 pub mod Worked

@@ -8,7 +8,8 @@ use Rattle.aldlf.specs.Walks.{walkIn, walkOf, walkNumber, walkOutcome}
 use Rattle.sheet.specs.Questions as sheet
 use Rattle.sheet.specs.Given.{nodeFits, edgeFits, headFits, edgesFit, usedFits, nodesFit, automataFit, nodesEnd, automataEnd, edgesEnd, wellFormed}
 use Rattle.joblog.specs.Log as log
-use Rattle.report.specs.Lines.{digitsOf, decimal, refusalLine, entryLine, entriesBelow, ruleLine, verdictLines, edgesBelow, walkLine, noWalkLine}
+use Rattle.appending.specs.Appending.{digitsOf, decimal}
+use Rattle.lines.specs.Lines.{refusalLine, entryLine, entriesBelow, ruleLine, verdictLines, edgesBelow, walkLine, noWalkLine}
 use Rattle.report.specs.Page.{refusedWalk, shownLine, walkPage, judgedPage, tablePage, sheetPage, pageOf}
 use Rattle.report.specs.Examples.{AllPrint, examples}
 

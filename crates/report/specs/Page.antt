@@ -13,7 +13,7 @@ use Rattle.joblog.specs.Log.{LogRead, entries, refused, readLog}
 use Rattle.sheet.specs.declared.SheetAnswer.{SheetAnswer}
 use Rattle.sheet.specs.Questions.{readSheet}
 use Rattle.sheet.specs.Given.{wellFormed}
-use Rattle.report.specs.Lines.{refusalLine, verdictLines, walkLine, noWalkLine}
+use Rattle.lines.specs.Lines.{refusalLine, verdictLines, walkLine, noWalkLine}
 
 -- the longest shortest walk: states times entries less one edges
 abbrev pub walkLimit : ℕ

@@ -1,7 +1,4 @@
 // The printed page as bytes: the sheet is read, then the log, then the log is judged, then the rule's walk is shown.
-mod appending;
-mod lines;
-
 use aldlf::Entry;
 use aldlf::Node;
 use aldlf::Table;
@@ -17,9 +14,8 @@ ghost use Prim.Native.Nat.{min};
 ghost use lib.ListN.{length};
 ghost use Rattle.aldlf.specs.Constants.{entryLimit};
 ghost use Rattle.joblog.specs.Log.{readLog};
-ghost use Rattle.report.specs.Lines.{printedIn};
 ghost use Rattle.report.specs.Page.{ruleOf, refusedWalk, walkPage, tablePage, logPage, pageOf};
-ghost use Rattle.report.specs.Appending.{Appends};
+ghost use Rattle.appending.specs.Appending.{printedIn, Appends};
 
 // No page is longer, so that a buffer of so many bytes takes every page.
 pub const BYTES: usize = 40000;

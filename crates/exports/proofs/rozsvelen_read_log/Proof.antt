@@ -1,9 +1,7 @@
 -- `rozsvelen_read_log` meets its contract: the answer of the log, as one number. Assumes nothing.
-use mathlib.Core.Path.{sym, _∙_}
 use native.Mathlib.Omega.{arith}
-use lib.ListN.{length}
 use denote.Ref.{now}
-use Rattle.exports.proofs.Logs.{log-count, refused-line, log-read, log-refused}
+use Rattle.exports.proofs.Logs.{log-count, log-line, log-read, log-refused}
 use borrow.Author.Needs.{needs}
 use Rattle.exports.proofs.rozsvelen_read_log.Statement.{statement}
 use Rattle.exports.proofs.rozsvelen_read_log.Tie as tie
@@ -19,7 +17,7 @@ code-requires c κs =
     let a = c .before .before .before .before .before .before .before .before .before .args in
     let l = c .before .before .before .before .before .read-log in
     let v = c .before .r in
-    (omega arith, omega (arith, log-count (now (a .text)) (now (a .words)) (v .given .0 .0) (sym (l .ensures .0) ∙ v .given .1)))
+    (omega arith, omega (arith, log-count (now (a .text)) (now (a .words)) _ (l .result) (l .ensures) (v .given .0 .0) (v .given .1)))
 
 enum-known-r-2 : tie.Need-enum-known-r-2
 enum-known-r-2 c = search needs
@@ -29,7 +27,7 @@ code-requires-2 c κs =
     let a = c .before .before .before .before .before .before .before .before .before .args in
     let l = c .before .before .before .before .before .read-log in
     let v = c .before .r2 in
-    (omega (arith, refused-line (now (a .text)) (length (now (a .words))) (v .given .0 .0) (v .given .0 .1 .0) (sym (l .ensures .0) ∙ v .given .1)), omega arith)
+    (omega (arith, log-line (now (a .text)) (now (a .words)) _ (l .result) (l .ensures) (v .given .0 .0) (v .given .0 .1 .0) (v .given .1)), omega arith)
 
 same-length : tie.Need-same-length
 same-length c = search needs
@@ -39,7 +37,7 @@ returns c =
     let a = c .before .before .before .before .before .before .before .before .before .before .args in
     let l = c .before .before .before .before .before .before .read-log in
     let v = c .before .before .r in
-    log-read (now (a .text)) (now (a .words)) _ _ (l .ensures .1) (v .given .0 .0) (sym (l .ensures .0) ∙ v .given .1) (c .code .ensures)
+    log-read (now (a .text)) (now (a .words)) _ (l .result) (l .ensures) (v .given .0 .0) _ (v .given .1) (c .code .ensures)
 
 same-length-2 : tie.Need-same-length-2
 same-length-2 c = search needs
@@ -49,7 +47,7 @@ returns-2 c =
     let a = c .before .before .before .before .before .before .before .before .before .before .args in
     let l = c .before .before .before .before .before .before .read-log in
     let v = c .before .before .r2 in
-    log-refused (now (a .text)) (now (a .words)) _ _ (l .ensures .1) (v .given .0 .0) (v .given .0 .1 .0) (sym (l .ensures .0) ∙ v .given .1) (c .code2 .ensures)
+    log-refused (now (a .text)) (now (a .words)) _ (l .result) (l .ensures) (v .given .0 .0) (v .given .0 .1 .0) _ (v .given .1) (c .code2 .ensures)
 
 pub rozsvelen-read-log-spec : {M : Type 1} → statement M
 rozsvelen-read-log-spec =

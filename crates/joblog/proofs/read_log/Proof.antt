@@ -9,6 +9,7 @@ use denote.Ref.{now}
 use Rattle.text.specs.Text.{byteLimit, lines, endsInLF}
 use Rattle.joblog.specs.Log.{entries, refused, readLines, readLog}
 use Rattle.joblog.specs.Steps.{wordsOf}
+use Rattle.joblog.proofs.Told.{read-told, refused-told}
 use Rattle.joblog.proofs.Questions.{log-21, log-22, log-line, log-27, log-fits, log-read, log-count}
 use Rattle.joblog.proofs.read_log.Statement.{statement}
 use Rattle.joblog.proofs.read_log.Tie as tie
@@ -17,7 +18,7 @@ returns : tie.Need-returns
 returns c =
     let a = c .before .before .before .args in
     let l : readLog (now (a .text)) (length (now (a .words))) ≡ refused 21 0 = log-21 (now (a .text)) (length (now (a .words))) (c .if1 .taken) in
-    (rw l, rw l)
+    refused-told (readLog (now (a .text)) (length (now (a .words)))) 21 0 (now (a .words)) l
 
 ends-in-lf-requires : tie.Need-ends-in-lf-requires
 ends-in-lf-requires c κs = search needs
@@ -27,7 +28,7 @@ returns-2 c =
     let a = c .before .before .before .before .before .args in
     let f = c .before .ends-in-lf in
     let l : readLog (now (a .text)) (length (now (a .words))) ≡ refused 22 0 = log-22 (now (a .text)) (length (now (a .words))) (c .before .before .if1 .left) (sym (f .ensures) ∙ not-true (f .result) (c .if2 .taken)) in
-    (rw l, rw l)
+    refused-told (readLog (now (a .text)) (length (now (a .words)))) 22 0 (now (a .words)) l
 
 -- the text is short enough, and ends in LF
 short : (c : tie.Else2) → length (now (c .before .before .before .before .before .args .text)) ≤ byteLimit
@@ -45,7 +46,7 @@ returns-3 c =
     let a = p .before .before .before .before .before .args in
     let j = c .before .before .judge-lines in
     let l : readLog (now (a .text)) (length (now (a .words))) ≡ refused (j .result .number) (j .result .line) = log-line (now (a .text)) (length (now (a .words))) (short p) (ended p) (j .result) (j .ensures) (c .if3 .taken) in
-    (rw l, rw l)
+    refused-told (readLog (now (a .text)) (length (now (a .words)))) (j .result .number) (j .result .line) (now (a .words)) l
 
 returns-4 : tie.Need-returns-4
 returns-4 c =
@@ -53,7 +54,7 @@ returns-4 c =
     let a = p .before .before .before .before .before .args in
     let j = c .before .before .before .before .judge-lines in
     let l : readLog (now (a .text)) (length (now (a .words))) ≡ refused 27 0 = log-27 (now (a .text)) (length (now (a .words))) (short p) (ended p) (j .result) (j .ensures) (c .before .before .if3 .left) (c .if4 .taken) in
-    (rw l, rw l)
+    refused-told (readLog (now (a .text)) (length (now (a .words)))) 27 0 (now (a .words)) l
 
 store-words-requires : tie.Need-store-words-requires
 store-words-requires c κs =
@@ -74,7 +75,7 @@ returns-5 c =
     let j = c .before .before .before .before .before .before .before .before .judge-lines in
     let z = c .before .before .before .before .before .before .if3 .left in
     let l : readLog text room ≡ entries (wordsOf (readLines 0 (lines text))) = log-read text room (short p) (ended p) (j .result) (j .ensures) z (c .before .before .before .before .if4 .left) in
-    (rw (l, log-count text room (short p) (ended p) (j .result) (j .ensures) z), rw l (c .before .before .store-words .ensures))
+    read-told (readLog text room) (j .result .count) (wordsOf (readLines 0 (lines text))) (now (a .words)) _ l (log-count text room (short p) (ended p) (j .result) (j .ensures) z) (c .before .before .store-words .ensures)
 
 pub read-log-spec : {M : Type 1} → statement M
 read-log-spec =

@@ -2,7 +2,7 @@
 use borrow.Author.Needs.{needs}
 use denote.Ref.{now}
 use Rattle.report.specs.Page.{pageOf}
-use Rattle.report.proofs.Storing.{appends-same, appends-whole}
+use Rattle.appending.proofs.Storing.{appends-same, appends-whole}
 use Rattle.report.proofs.Pages.{sheet-refused, sheet-read}
 use Rattle.report.proofs.page.Statement.{statement}
 use Rattle.report.proofs.page.Tie as tie

@@ -7,9 +7,10 @@ use lib.Seq.{length-take-le}
 use mathlib.Core.Path.{_≡_, ap, sym}
 use Rattle.aldlf.specs.Constants.{entryLimit}
 use Rattle.joblog.specs.Log.{entries, readLog}
+use Rattle.joblog.proofs.Told.{told-refused}
 use Rattle.report.specs.Page.{logPage}
-use Rattle.report.proofs.Storing.{appends-same}
-use Rattle.report.proofs.Answers.{log-entries, log-refused}
+use Rattle.appending.proofs.Storing.{appends-same}
+use Rattle.report.proofs.Answers.{log-entries}
 use Rattle.report.proofs.put_log_page.Statement.{statement}
 use Rattle.report.proofs.put_log_page.Tie as tie
 
@@ -18,7 +19,7 @@ read : (c : tie.After-a) → (c .a .given .0 .0 ≤ length (c .before .before .b
     × (readLog (now (c .before .before .before .before .before .before .before .args .steps)) entryLimit ≡ entries (take (c .a .given .0 .0) (c .before .before .before .read-log .last .1 .0)))
 read c =
     let r = c .before .before .before .read-log in
-    log-entries (readLog (now (c .before .before .before .before .before .before .before .args .steps)) entryLimit) (r .result) (c .a .given .0 .0) (replicate entryLimit 0) (r .last .1 .0) (c .a .given .1) (r .ensures .0) (r .ensures .1)
+    log-entries (now (c .before .before .before .before .before .before .before .args .steps)) (replicate entryLimit 0) (r .last .1 .0) (r .result) (c .a .given .0 .0) (r .ensures) (c .a .given .1)
 
 slice-aggregate-read-log : tie.Need-slice-aggregate-read-log
 slice-aggregate-read-log c = search needs
@@ -63,7 +64,7 @@ returns-2 c =
     let a = k .before .before .before .before .before .before .before .args in
     let r = k .before .before .before .read-log in
     let v = k .a2 .given in
-    appends-same (ap (logPage (a .table)) (sym (log-refused (readLog (now (a .steps)) entryLimit) (r .result) (v .0 .0) (v .0 .1 .0) (v .1) (r .ensures .0)))) (c .before .before .put-refusal .ensures)
+    appends-same (ap (logPage (a .table)) (sym (told-refused (now (a .steps)) (replicate entryLimit 0) (r .last .1 .0) (r .result) (v .0 .0) (v .0 .1 .0) (r .ensures) (v .1) .0))) (c .before .before .put-refusal .ensures)
 
 pub put-log-page-spec : {M : Type 1} → statement M
 put-log-page-spec =
