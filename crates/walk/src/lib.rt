@@ -1,9 +1,5 @@
 // The walk that shows a verdict: by which steps through the log a D node holds or a B node fails.
-mod distances;
-mod edges;
-mod moves;
 mod search;
-mod trace;
 
 use aldlf::Entry;
 use aldlf::Node;
@@ -19,18 +15,12 @@ ghost use Rattle.aldlf.specs.Sheet.{sheetOf};
 ghost use Rattle.aldlf.specs.Walks.{walkOutcome};
 ghost use Rattle.sheet.specs.Given.{wellFormed};
 ghost use Rattle.walk.specs.Answer.{answerOf, shorterOf};
-ghost use Rattle.walk.specs.Configurations.{modalOf, JudgedLog};
+ghost use Rattle.walk.specs.Search.{modalOf, JudgedLog};
 
 // What asking for a walk answers: how many edges it has, or the number of the first question that gets a no.
 pub enum WalkAnswer {
     Shown(usize),
     Refused(u8),
-}
-
-// Where a walk is to end: in an accepting state at an entry where the node's verdict is `want`.
-pub(crate) struct Goal {
-    pub(crate) node: Node,
-    pub(crate) want: bool,
 }
 
 // The walk that shows the verdict on a D or B node at an entry: the edges of the shortest walk that ends in an accepting state where
