@@ -66,10 +66,11 @@ fn walk_judged(
         answerOf r (now (edges .exit)) ≡ walkOutcome true (sheetOf table) log (node .0) (entry .0) (now (edges .entry))) ⌝ }
 {
     let k = node.0;
+    let i = entry.0 as usize;
     if table.used.nodes <= k {
         return WalkAnswer::Refused(36);
     }
-    if words.len() <= entry.0 as usize {
+    if words.len() <= i {
         return WalkAnswer::Refused(37);
     }
     let line = table.nodes[k as usize];
