@@ -21,11 +21,13 @@ use Rattle.aldlf.proofs.Split.{Is₂}
 use Rattle.aldlf.proofs.Search as search
 use Rattle.aldlf.proofs.Search.{found-first}
 use Rattle.aldlf.proofs.Short.{found, found-some, found-none}
-use Rattle.walk.specs.Graph.{Graph, Step, Walk, Distances, Descent, far, at}
-use Rattle.walk.specs.Configurations.{unpackedOf, graphOf, GoalAt, goalAt, Goes, Moves, Ready}
-use Rattle.walk.specs.declared.Goal.{Goal}
-use Rattle.walk.proofs.Steps.{step-moves, moves-step, forward, config-inside}
-use Rattle.walk.proofs.Greedy.{descent-length, descent-walk, descent-first}
+use Rattle.graph.specs.Graph.{Graph, Step, Walk, far, at}
+use Rattle.graph.specs.Configurations.{unpackedOf, graphOf, Goes, Moves, Ready}
+use Rattle.graph.proofs.Steps.{step-moves, moves-step, forward, config-inside}
+use Rattle.shortest.specs.Goals.{GoalAt, goalAt}
+use Rattle.shortest.specs.Descent.{Distances, Descent}
+use Rattle.shortest.specs.declared.Goal.{Goal}
+use Rattle.shortest.proofs.Greedy.{descent-length, descent-walk, descent-first}
 
 -- an edge of a table as an edge of its sheet
 abbrev pub edgeOf : Edge → sheet.Edge

@@ -26,13 +26,15 @@ use Rattle.aldlf.proofs.Packing.{length-tabulate, getD-tabulate, bit-pack}
 use Rattle.aldlf.proofs.Short.{found}
 use Rattle.sheet.specs.Facts.{nodeAt, automatonAt, edgeAt, ModalFacts, TableFacts}
 use Rattle.sheet.proofs.Facts.{tests-below}
-use Rattle.walk.specs.Graph.{far, at}
-use Rattle.walk.specs.Configurations.{graphOf, startOf, goalAt, GoalAt, goalOf, unpackedOf, Ready, Found, LineReady, LineFound, JudgedLog, modalOf}
+use Rattle.graph.specs.Graph.{far, at}
+use Rattle.graph.specs.Configurations.{graphOf, startOf, unpackedOf, Ready}
+use Rattle.shortest.specs.Goals.{goalAt, GoalAt}
+use Rattle.shortest.specs.declared.Goal.{Goal}
+use Rattle.walk.specs.Search.{goalOf, Found, LineReady, LineFound, JudgedLog, modalOf}
 use Rattle.walk.specs.Answer.{refusedBy, answerOf}
-use Rattle.walk.specs.declared.Goal.{Goal}
 use Rattle.walk.specs.declared.WalkAnswer.{WalkAnswer}
 use Rattle.walk.specs.declared.WalkAnswer.the-variants.{Shown, Refused}
-use Rattle.walk.proofs.Packing.{edge-at}
+use Rattle.walk.proofs.LineEdges.{edge-at}
 use Rattle.walk.proofs.Agreement.{Agrees, edgeOf, found-far, found-near, found-descent}
 use Rattle.walk.proofs.Questions.{refusal, byRoom, shownBy, outcome-36, outcome-37, outcome-38, outcome-walk}
 

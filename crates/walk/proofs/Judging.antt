@@ -19,7 +19,7 @@ use Rattle.judge.specs.declared.Judged.{Judged}
 use Rattle.judge.specs.declared.Judged.the-variants as judged
 use Rattle.walk.specs.declared.WalkAnswer.the-variants.{Refused}
 use Rattle.walk.specs.Answer.{refusedBy, answerOf}
-use Rattle.walk.specs.Configurations.{JudgedLog}
+use Rattle.walk.specs.Search.{JudgedLog}
 use Rattle.walk.proofs.Answers.{words-long}
 use Rattle.walk.proofs.Questions.{refusal, outcome-early}
 

@@ -1,13 +1,4 @@
-pub mod Cases
-pub mod Marked
-pub mod Progress
-pub mod Greedy
-pub mod Turns
-pub mod Priors
-pub mod Seeds
-pub mod Steps
-pub mod Traced
-pub mod Packing
+pub mod LineEdges
 pub mod Room
 pub mod Agreement
 pub mod Questions

@@ -1,4 +1,2 @@
 pub mod Answer
-pub mod Graph
-pub mod Progress
-pub mod Configurations
+pub mod Search

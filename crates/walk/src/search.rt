@@ -1,20 +1,22 @@
 // The search for one walk: the distances of all configurations, then the walk from its start, or the question that gets a no.
-use super::Goal;
 use super::WalkAnswer;
-use super::distances::distances;
-use super::edges::pack_edges;
-use super::moves::FAR;
-use super::trace::trace;
 use aldlf::Automaton;
 use aldlf::Entry;
 use aldlf::Node;
 use aldlf::NodeLine;
 use aldlf::Table;
+use graph::edges::pack_edges;
+use graph::moves::FAR;
+use shortest::Goal;
+use shortest::distances::distances;
+use shortest::trace::trace;
 ghost use mathlib.Core.Path.{_≡_};
 ghost use Prim.Native.Nat.{_*_, _≤_};
 ghost use lib.ListN.{length};
-ghost use Rattle.walk.specs.Graph.{Descends};
-ghost use Rattle.walk.specs.Configurations.{graphOf, GoalAt, startOf, Ready, Asked, Answered, Found, LineReady, LineFound};
+ghost use Rattle.graph.specs.Configurations.{graphOf, startOf, Ready};
+ghost use Rattle.shortest.specs.Goals.{GoalAt};
+ghost use Rattle.shortest.specs.Descent.{Descends};
+ghost use Rattle.walk.specs.Search.{Asked, Answered, Found, LineReady, LineFound};
 
 // A walk that is sought: of this automaton, from its start at this entry, to this goal.
 pub(crate) struct Query {

@@ -3,8 +3,8 @@ use Prim.Native.Nat.{ℕ, _≤_, _*_}
 use mathlib.Core.Path.{sym}
 use denote.Ref.{now}
 use lib.ListN.{length}
+use Rattle.graph.proofs.Steps.{size-small}
 use Rattle.walk.proofs.Room.{zeros-long}
-use Rattle.walk.proofs.Steps.{size-small}
 use borrow.Author.Needs.{needs}
 use native.Mathlib.Omega.{arith}
 use Rattle.walk.proofs.search.find.Statement.{statement}

@@ -1,7 +1,8 @@
 -- `search` meets its contract: the walk falls along the distances just found. Assumes nothing.
 use denote.Ref.{now}
-use Rattle.walk.specs.Configurations.{graphOf, GoalAt}
-use Rattle.walk.proofs.Greedy.{descends}
+use Rattle.graph.specs.Configurations.{graphOf}
+use Rattle.shortest.specs.Goals.{GoalAt}
+use Rattle.shortest.proofs.Greedy.{descends}
 use borrow.Author.Needs.{needs}
 use Rattle.walk.proofs.search.search.Statement.{statement}
 use Rattle.walk.proofs.search.search.Tie as tie

@@ -4,8 +4,8 @@ use mathlib.Core.Path.{refl}
 use mathlib.Core.Logic.{inl, inr}
 use denote.Ref.{now}
 use lib.ListN.{length}
-use Rattle.walk.specs.Configurations.{startOf}
-use Rattle.walk.proofs.Steps.{start-in, size-small}
+use Rattle.graph.specs.Configurations.{startOf}
+use Rattle.graph.proofs.Steps.{start-in, size-small}
 use borrow.Author.Needs.{needs}
 use native.Mathlib.Omega.{arith}
 use Rattle.walk.proofs.search.show.Statement.{statement}

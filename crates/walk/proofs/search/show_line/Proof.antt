@@ -1,6 +1,6 @@
 -- `show_line` meets its contract: the packed edges are those of the line's automaton. Assumes nothing.
 use denote.Ref.{now}
-use Rattle.walk.proofs.Packing.{ready-of}
+use Rattle.walk.proofs.LineEdges.{ready-of}
 use borrow.Author.Needs.{needs}
 use native.Mathlib.Omega.{arith}
 use Rattle.walk.proofs.search.show_line.Statement.{statement}

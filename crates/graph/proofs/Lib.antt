@@ -1,0 +1,4 @@
+pub mod Cases
+pub mod Priors
+pub mod Steps
+pub mod Packing
