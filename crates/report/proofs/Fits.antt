@@ -1,6 +1,6 @@
 -- Every page is at most 40,000 bytes long: at most 512 lines of 6 bytes, a line for the rule, and a walk of at most 8,191 edges of at most 4 bytes.
-use Prim.Native.Nat.{ℕ, zero, suc, _≤_, min}
-use mathlib.Core.Path.{_≡_, refl, ap, _∙_}
+use Prim.Native.Nat.{ℕ, zero, suc, _≤_}
+use mathlib.Core.Path.{_≡_, refl, ap, sym, _∙_}
 use mathlib.Core.Bool.{Bool, true, false, cond, _||_}
 use mathlib.Core.List.{List, [], _∷_, _++_}
 use native.Mathlib.Omega.{arith}
@@ -23,10 +23,10 @@ use Rattle.sheet.proofs.Facts.{table-facts}
 use Rattle.walk.proofs.Questions.{outcome-0, outcome-most}
 use Rattle.joblog.specs.Log.{LogRead, entries, refused, readLog}
 use Rattle.lines.specs.Lines.{refusalLine, verdictLines, walkLine, noWalkLine}
-use Rattle.appending.specs.Appending.{printedIn}
-use Rattle.report.specs.Page.{walkLimit, pageLimit, ruleOf, refusedWalk, shownLine, walkPage, judgedPage, tablePage, logPage, sheetPage, pageOf}
-use Rattle.appending.proofs.Storing.{printed-whole}
+use Rattle.report.specs.Page.{walkLimit, pageLimit, ruleOf, refusedWalk, shownLine, walkPage, judgedPage, tablePage, logPage, sheetPage, pageOf, Printed, printedOf, placed, pageOutcome}
+use Rattle.report.specs.declared.PageAnswer.{PageAnswer}
 use Rattle.lines.proofs.Lengths.{refusal-length, verdicts-length, walk-length}
+use Rattle.report.proofs.Placed.{placed-fits, placed-count}
 use Rattle.report.proofs.Numbers.{first-le, Small, sheet-small, SmallLog, log-small, held-le, edges-small}
 use Rattle.report.proofs.Answers.{whole-number, whole-yes, whole-held}
 
@@ -105,9 +105,22 @@ pub page-fits : (rules steps : List ℕ) → length (pageOf rules steps) ≤ pag
 unfolding pageOf
 page-fits rules steps = sheet-page-length (readSheet rules) steps (sheet-small rules)
 
--- so a buffer of that many bytes takes every page whole: what page answers is its length, and the bytes are all there
-pub page-whole : (rules steps out : List ℕ) → pageLimit ≤ length out
-    → (min (length (pageOf rules steps)) (length out) ≡ length (pageOf rules steps)) × (printedIn (pageOf rules steps) out ≡ pageOf rules steps ++ drop (length (pageOf rules steps)) out)
-page-whole rules steps out h =
-    let f = page-fits rules steps in
-    (omega arith, printed-whole (pageOf rules steps) out (omega arith))
+-- so a buffer of that many bytes takes every page whole
+pub page-whole : (rules steps lent : List ℕ) → pageLimit ≤ length lent
+    → pageOutcome rules steps lent ≡ record { number = 0; count = length (pageOf rules steps); buffer = pageOf rules steps ++ drop (length (pageOf rules steps)) lent }
+unfolding pageOutcome
+page-whole rules steps lent h = placed-fits (pageOf rules steps) lent (omega (arith, page-fits rules steps))
+
+-- and is never refused
+pub page-never-refused : (rules steps lent : List ℕ) → pageLimit ≤ length lent → pageOutcome rules steps lent .number ≡ 44 → ⊥
+page-never-refused rules steps lent h e =
+    let z : _≡_ {A = ℕ} 0 44 = sym (ap (λ (p : Printed). p .number) (page-whole rules steps lent h)) ∙ e in
+    absurd (omega arith)
+
+-- what a caller may take from an answer: the bytes are within the buffer, and within the limit
+pub page-bytes : (rules steps lent after : List ℕ) (r : PageAnswer) → printedOf r after ≡ pageOutcome rules steps lent → (r .bytes ≤ length lent) × (r .bytes ≤ pageLimit)
+unfolding pageOutcome
+page-bytes rules steps lent after r e =
+    let c : r .bytes ≡ placed (pageOf rules steps) lent .count = ap (λ (p : Printed). p .count) e in
+    let (room, all) = placed-count (pageOf rules steps) lent in
+    (omega arith, omega (arith, page-fits rules steps))

@@ -1,4 +1,5 @@
 pub mod Pages
+pub mod Placed
 pub mod Answers
 pub mod Worked
 pub mod Numbers
