@@ -4,3 +4,4 @@ pub mod Judging
 pub mod Capped
 pub mod Walks
 pub mod Apart
+pub mod Runs
