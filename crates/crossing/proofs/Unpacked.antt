@@ -1,12 +1,12 @@
 -- Pieces read from numbers: the test of a whole is that of its parts, and a whole that passes is what its parts are.
-use Prim.Native.Nat.{ℕ, suc, _+_, _%_, _<_}
+use Prim.Native.Nat.{ℕ, _+_, _%_, _<_}
 use mathlib.Core.Path.{_≡_, refl, ap, sym, _∙_}
 use mathlib.Core.Bool.{Bool, true, false, _&&_, and-true}
 use mathlib.Core.List.{List, [], _∷_, _++_}
 use native.Mathlib.Omega.{arith}
 use native.Mathlib.Numerals.{add-one}
 use native.Mathlib.Nat.{mod-eq-of-lt}
-use lib.Dec.{ltb, eqb}
+use lib.Dec.{ltb}
 use lib.ListN.{length, take, set}
 use lib.Seq.{take-suc-set, take-all}
 use borrow.Author.Tests.{ltb-true, eq-eqb, ne-eqb}
@@ -14,7 +14,6 @@ use Rattle.aldlf.specs.declared.NodeLine.{NodeLine}
 use Rattle.aldlf.specs.declared.Automaton.{Automaton}
 use Rattle.aldlf.specs.declared.Edge.{Edge}
 use Rattle.aldlf.specs.declared.Used.{Used}
-use Rattle.aldlf.specs.declared.Table.{Table}
 use Rattle.aldlf.proofs.Bools.{and-left, and-right}
 use Rattle.sheet.specs.Questions.{emptyTable}
 use Rattle.crossing.specs.Numbers.{listed, allOf, isByte, lineFits, automatonFits, edgeFits, usedFits, linesIn, automataIn, edgesIn, usedAt, usedPlace, tableSize, tableFits, fieldsIn, tableOf}

@@ -1,5 +1,5 @@
 -- The calls that judge: each answer is the definition's, and the count held is at most the log's entries.
-use Prim.Native.Nat.{ℕ, _-_, _<_}
+use Prim.Native.Nat.{ℕ, _<_}
 use mathlib.Core.Path.{_≡_, ap, sym, _∙_}
 use mathlib.Core.Bool.{Bool, true, false, cond}
 use mathlib.Core.List.{List}
@@ -9,7 +9,6 @@ use lib.ListN.{length}
 use borrow.Author.Tests.{eq-eqb, ne-eqb, leb-true}
 use Rattle.aldlf.specs.Constants.{nodeLimit, entryLimit}
 use Rattle.aldlf.specs.Sheet.{Sheet, sheetOf}
-use Rattle.aldlf.specs.Verdict.{verdict}
 use Rattle.aldlf.specs.Outcomes.{Whole, wholeOutcome, partOutcome, plainRow}
 use Rattle.aldlf.specs.declared.Table.{Table}
 use Rattle.aldlf.specs.declared.Row.{Row}
@@ -24,7 +23,7 @@ use Rattle.report.proofs.Answers.{whole-yes, whole-held}
 use Rattle.report.proofs.Numbers.{held-le}
 use Rattle.crossing.specs.Numbers.{tableOf, rowOf}
 use Rattle.exports.specs.Answers.{answerCode, accepted, refusal, outcome}
-use Rattle.exports.specs.Judging.{judged, judgeOutcome, plainInto, plainOutcome, wayOf, partEnds, partJudged, judgePartOutcome}
+use Rattle.exports.specs.Judging.{judged, judgeOutcome, plainInto, plainOutcome, isWay, wayOf, partEnds, partJudged, judgePartOutcome}
 use Rattle.exports.proofs.Sheets.{short-is, long-is}
 
 -- an accepted log is within the limit, and the rule holds at no more entries than there are
@@ -79,12 +78,16 @@ module _ (table : List ℕ) (way : ℕ) (row words verdicts : List ℕ) where
   unfolding judgePartOutcome
   part-short a h e = rw (ne-eqb (length row) nodeLimit h, e)
 
-  module _ (t : Table) (w : Way) (given : Row) (p : PartAnswer) (after : List ℕ) (a : ℕ) (h : length row ≡ nodeLimit)
+  pub part-no-way : (a : ℕ) → length row ≡ nodeLimit → isWay way ≡ false → a ≡ refusal 43 → partEnds a row verdicts ≡ judgePartOutcome table way row words verdicts
+  unfolding judgePartOutcome
+  part-no-way a h n e = rw (eq-eqb (length row) nodeLimit h, n, e)
+
+  module _ (t : Table) (w : Way) (given : Row) (p : PartAnswer) (after : List ℕ) (a : ℕ) (h : length row ≡ nodeLimit) (known : isWay way ≡ true)
       (is : t ≡ tableOf table) (goes : w ≡ wayOf way) (held : given ≡ rowOf row)
       (ends : partOf p after ≡ partOutcome (wellFormed t) w (sheetOf t) given words verdicts) (e : a ≡ answerCode (p .number) 0 0) where
     part-is : judgePartOutcome table way row words verdicts ≡ partJudged row (partOf p after)
     unfolding judgePartOutcome
-    part-is = rw (eq-eqb (length row) nodeLimit h, ← is, ← goes, ← held, ← ends)
+    part-is = rw (eq-eqb (length row) nodeLimit h, known, ← is, ← goes, ← held, ← ends)
 
     pub part-refused : (p .number ≡ 0 → ⊥) → partEnds a row after ≡ judgePartOutcome table way row words verdicts
     part-refused n =

@@ -15,12 +15,16 @@ use joblog::LogAnswer;
 use judge::Judged;
 use walk::WalkAnswer;
 ghost use mathlib.Core.Path.{_≡_};
+ghost use Prim.Native.Nat.{min};
 ghost use Rattle.exports.specs.Answers.{outcome, sheetOutcome, logOutcome};
-ghost use Rattle.exports.specs.Judging.{partEnds, judgeOutcome, plainOutcome, judgePartOutcome, wayOf};
+ghost use Rattle.exports.specs.Judging.{partEnds, judgeOutcome, plainOutcome, judgePartOutcome, isWay, wayOf};
 ghost use Rattle.exports.specs.Showing.{walkShown, pageOutcome};
 
 // The boundary's own question: a lent table or row has its fixed length.
 const LENGTH: u8 = 35;
+
+// The boundary's own question: the number of a way is 1 or 2.
+const WAY: u8 = 43;
 
 // Reads a sheet's text into a table. A refusal alters nothing.
 #[no_mangle]
@@ -30,13 +34,13 @@ pub extern "C" fn rozsvelen_read_sheet(text: &[u8], table: &mut [u16]) -> u64
     if table.len() != TABLE {
         return code(LENGTH, 0, 0);
     }
-    let a = sheet::read_sheet(text);
-    if a.number != 0 {
-        return code(a.number, a.line as usize, 0);
+    let s = sheet::read_sheet(text);
+    if s.number != 0 {
+        return code(s.number, s.line as usize, 0);
     }
-    let t = a.table;
+    let t = s.table;
     put_table(t, table);
-    code(a.number, a.line as usize, 0)
+    code(s.number, s.line as usize, 0)
 }
 
 // Reads a log's text into words and counts its entries. A refusal alters nothing.
@@ -81,7 +85,7 @@ pub extern "C" fn rozsvelen_plain_row(table: &[u16], row: &mut [u16]) -> u64
 }
 
 // Judges a part, given the row of the entry just outside it, and puts the row for the next part in its place. A refusal alters
-// nothing. way: 1 is ahead, any other number back.
+// nothing. way: 1 is ahead, 2 back.
 #[no_mangle]
 pub extern "C" fn rozsvelen_judge_part(
     table: &[u16],
@@ -95,16 +99,26 @@ pub extern "C" fn rozsvelen_judge_part(
     if row.len() != aldlf::NODES {
         return code(LENGTH, 0, 0);
     }
+    if !is_way(way) {
+        return code(WAY, 0, 0);
+    }
     let t = table_of(table);
     let w = way_of(way);
     let given = row_of(row);
-    let a = judge::judge_part(t, w, given, words, verdicts);
-    if a.number != 0 {
-        return code(a.number, 0, 0);
+    let p = judge::judge_part(t, w, given, words, verdicts);
+    if p.number != 0 {
+        return code(p.number, 0, 0);
     }
-    let next = a.row;
+    let next = p.row;
     put_row(next, row);
-    code(a.number, 0, 0)
+    code(p.number, 0, 0)
+}
+
+// Whether a number names a way.
+fn is_way(way: u8) -> bool
+    ensures { λ r. ⌜ r ≡ isWay way ⌝ }
+{
+    (way == 1) | (way == 2)
 }
 
 // The way that a number names.
@@ -117,23 +131,44 @@ fn way_of(way: u8) -> Way
     Way::Back
 }
 
-// The walk that shows a node at an entry, and the count of its edges. A refusal alters nothing.
+// The walk that shows a node at an entry, and the count of its edges. A refusal alters nothing. Both numbers are wider than a node's
+// and an entry's own, so that none is taken for another.
 #[no_mangle]
 pub extern "C" fn rozsvelen_walk(
     table: &[u16],
     log: &[u32],
-    node: u8,
-    entry: u16,
+    node: u32,
+    entry: u32,
     edges: &mut [u16],
 ) -> u64
     ensures { λ r. ⌜ outcome r (now (edges .exit)) ≡ walkShown (now (table .entry)) (now (log .entry)) node entry (now (edges .entry)) ⌝ }
 {
     let t = table_of(table);
-    let r = walk::walk(t, log, Node(node), Entry(entry), edges);
+    let r = walk::walk(t, log, node_of(node), entry_of(entry), edges);
     match r {
         WalkAnswer::Shown(n) => code(0, 0, n),
         WalkAnswer::Refused(q) => code(q, 0, 0),
     }
+}
+
+// A node's number, or the largest that a node can have: no sheet has that one.
+fn node_of(node: u32) -> Node
+    ensures { λ r. ⌜ r .0 ≡ min node 255 ⌝ }
+{
+    if node > 255 {
+        return Node(255);
+    }
+    Node(node as u8)
+}
+
+// An entry's number, or the largest that an entry can have: no log has that one.
+fn entry_of(entry: u32) -> Entry
+    ensures { λ r. ⌜ r .0 ≡ min entry 65535 ⌝ }
+{
+    if entry > 65535 {
+        return Entry(65535);
+    }
+    Entry(entry as u16)
 }
 
 // The page of a sheet and a log in the first places of a slice, as many bytes as fit, and the count of these. It never refuses: a
