@@ -13,15 +13,15 @@ use lib.Seq.{take-at}
 use lib.Dec.{leb, ltb}
 use Rattle.aldlf.specs.Constants.{entryLimit}
 use Rattle.aldlf.specs.Sheet.{Sheet, Line, T, F, P, N, A, O, D, B, byMode, sheetOf}
-use Rattle.aldlf.specs.Outcomes.{Whole, firstNo, logFits, logWords, heldIn, wholeNumber, wholeOutcome}
-use Rattle.aldlf.specs.Walks.{Shown, walkBy, walkOf, walkOutcome}
+use Rattle.aldlf.specs.Outcomes.{firstNo, logFits, logWords, heldIn, wholeNumber, wholeOutcome}
+use Rattle.aldlf.specs.Walks.{walkBy, walkOf, walkOutcome}
 use Rattle.aldlf.specs.declared.Table.{Table}
 use Rattle.aldlf.proofs.Bools.{bool-cases, and-intro}
 use Rattle.sheet.specs.Questions.{readSheet}
 use Rattle.sheet.specs.Given.{wellFormed}
 use Rattle.sheet.proofs.Facts.{table-facts}
 use Rattle.sheet.proofs.Question31.{read-well-formed}
-use Rattle.joblog.specs.Log.{LogRead, entries, readLog, answerOf}
+use Rattle.joblog.specs.Log.{entries, readLog, answerOf}
 use Rattle.joblog.proofs.Answers.{accepted}
 use Rattle.walk.proofs.Questions.{shownBy, byRoom, refusal, outcome-38, outcome-walk}
 use Rattle.walk.proofs.Shown.{short}
