@@ -5,3 +5,5 @@ pub mod Worked
 pub mod Numbers
 pub mod Fits
 pub mod Printed
+pub mod Accepted
+pub mod Readable

@@ -51,7 +51,7 @@ abbrev Given : {X Y : Type 0} → (X → Y) → Type 0
 Given {X} f = X
 
 -- a sheet read so far, and a line of it
-abbrev Reading : Type 0
+abbrev pub Reading : Type 0
 Reading = Given sheet.finish
 
 abbrev SheetLine : Type 0

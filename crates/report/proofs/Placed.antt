@@ -1,6 +1,6 @@
 -- A page in a lent buffer: one that fits, one that does not, and one that was first stored in a buffer with more places.
 use Prim.Native.Nat.{ℕ, _≤_, _<_}
-use mathlib.Core.Path.{_≡_, refl, ap, sym, _∙_}
+use mathlib.Core.Path.{_≡_, ap, sym, _∙_}
 use mathlib.Core.Logic.{⊎-elim}
 use mathlib.Core.List.{List, _++_}
 use native.Mathlib.Omega.{arith}
@@ -8,7 +8,7 @@ use borrow.Author.Tests.{le-leb, lt-leb}
 use lib.ListN.{length, take, drop, length-take}
 use lib.Seq.{take-at}
 use Rattle.aldlf.proofs.Bools.{lt-or-le}
-use Rattle.appending.specs.Appending.{printedIn, Stored, Appends}
+use Rattle.appending.specs.Appending.{Stored, Appends}
 use Rattle.appending.proofs.Storing.{printed-length, printed-whole, appends-whole}
 use Rattle.report.specs.Page.{Printed, placed}
 

@@ -22,7 +22,7 @@ use Rattle.report.specs.Page.{ruleOf}
 use Rattle.report.proofs.Answers.{whole-yes, whole-buffer}
 
 -- the words of a log: one for each entry, and its bits are the verdicts
-words-length : (S : Sheet) (log : List ℕ) → length (logWords S log) ≡ length log
+pub words-length : (S : Sheet) (log : List ℕ) → length (logWords S log) ≡ length log
 unfolding partWords
 words-length S log = length-tabulate (length log) _
 
