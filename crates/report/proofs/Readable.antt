@@ -21,7 +21,7 @@ use Rattle.sheet.specs.Questions.{readSheet}
 use Rattle.sheet.specs.Given.{wellFormed}
 use Rattle.sheet.proofs.Facts.{table-facts}
 use Rattle.sheet.proofs.Question31.{read-well-formed}
-use Rattle.joblog.specs.Log.{entries, readLog, answerOf}
+use Rattle.joblog.specs.Log.{entries, readLog}
 use Rattle.joblog.proofs.Answers.{accepted}
 use Rattle.walk.proofs.Questions.{shownBy, byRoom, refusal, outcome-38, outcome-walk}
 use Rattle.walk.proofs.Shown.{short}
@@ -130,7 +130,7 @@ read-page rules steps log z e =
     let t = readSheet rules .table in
     let old = replicate {A = ℕ} entryLimit 0 in
     let here : readLog steps (length old) ≡ entries log = ap (readLog steps) (length-replicate {A = ℕ} entryLimit 0) ∙ e in
-    let x = accepted steps old (length log) (ap answerOf here) in
+    let x = accepted steps old log here in
     sym (sheet-read rules steps (readSheet rules) refl z)
     ∙ ap (logPage t) e
     ∙ table-page t log (read-well-formed rules t (sheet-accepted rules z)) (x .some) (x .limit)
