@@ -11,7 +11,8 @@ fn main() {
     let mut out = [0u8; report::BYTES];
     let n = read_file(b"rules.txt", &mut rules);
     let m = read_file(b"steps.txt", &mut steps);
-    let k = report::page(&rules[..n], &steps[..m], &mut out);
+    let p = report::page(&rules[..n], &steps[..m], &mut out);
+    let k = p.bytes;
     io::write_all(STDOUT_FILENO, &out[..k]);
 }
 
