@@ -21,7 +21,7 @@ use Rattle.sheet.proofs.Facts.{table-facts}
 use Rattle.judge.proofs.GivenLaws.{plain-is-plain}
 use Rattle.judge.proofs.Demand.{demand-3}
 use Rattle.crossing.specs.Numbers.{tableOf, rowOf}
-use Rattle.exports.specs.Answers.{answerCode, accepted, refusal, outcome}
+use Rattle.exports.specs.Answers.{answerCode, accepted, refusal, Outcome, outcome}
 use Rattle.exports.specs.Judging.{isWay, wayOf, plainOutcome, partEnds, partJudged, judgePartOutcome}
 use Rattle.exports.specs.Runs.{afterPart, partsFrom, partsRun}
 
@@ -121,23 +121,35 @@ module _ (table : List ℕ) (way : ℕ) where
       let (parts, e) = run-is row calls in
       subst (Right (wellFormed t) (wayOf way) (sheetOf t)) (sym e) (demand-3 t (wayOf way) (rowOf row) p parts)
 
--- what `rozsvelen_plain_row` leaves in a lent row where it accepts is plain
+-- what `rozsvelen_plain_row` leaves in a lent row where it accepts is the plain row
 module _ (table lent : List ℕ) where
   no-plain : (q : ℕ) → refusal (suc q) ≡ accepted 0 → ⊥
   unfolding answerCode
   no-plain q e = omega (arith, e)
 
-  plain-left : plainOutcome table lent .answer ≡ accepted 0 → IsPlain (sheetOf (tableOf table)) (rowOf (plainOutcome table lent .slice))
+  plain-left : plainOutcome table lent .answer ≡ accepted 0
+      → (wellFormed (tableOf table) ≡ true) × (plainOutcome table lent .slice ≡ plainRow (sheetOf (tableOf table)) .bits)
   unfolding plainOutcome
-  plain-left = go (eqb (length lent) nodeLimit) (wellFormed (tableOf table)) refl
+  plain-left = go (eqb (length lent) nodeLimit) (wellFormed (tableOf table))
     where
-      go : (b g : Bool) → wellFormed (tableOf table) ≡ g
-          → cond b (cond g (outcome (accepted 0) (plainRow (sheetOf (tableOf table)) .bits)) (outcome (refusal 31) lent)) (outcome (refusal 35) lent) .answer ≡ accepted 0
-          → IsPlain (sheetOf (tableOf table)) (rowOf (cond b (cond g (outcome (accepted 0) (plainRow (sheetOf (tableOf table)) .bits)) (outcome (refusal 31) lent)) (outcome (refusal 35) lent) .slice))
-      go true true w e = plain-is-plain (tableOf table) (table-facts (tableOf table) w)
-      go true false w e = absurd (no-plain 30 e)
-      go false g w e = absurd (no-plain 34 e)
+      left : Bool → Bool → Outcome
+      left long given = cond long (cond given (outcome (accepted 0) (plainRow (sheetOf (tableOf table)) .bits)) (outcome (refusal 31) lent)) (outcome (refusal 35) lent)
 
+      go : (long given : Bool) → left long given .answer ≡ accepted 0 → (given ≡ true) × (left long given .slice ≡ plainRow (sheetOf (tableOf table)) .bits)
+      go true true e = (refl, refl)
+      go true false e = absurd (no-plain 30 e)
+      go false given e = absurd (no-plain 34 e)
+
+  -- a run of calls that starts from it is the run of part judgings from the plain row
+  pub run-from-plain-row : plainOutcome table lent .answer ≡ accepted 0 → (way : ℕ) → isWay way ≡ true → (calls : List Call)
+      → partsRun table way (plainOutcome table lent .slice) calls ≡ run (wellFormed (tableOf table)) (wayOf way) (sheetOf (tableOf table)) (plainRow (sheetOf (tableOf table))) calls
+  run-from-plain-row e way known calls =
+      ap (λ (row : List ℕ). partsRun table way row calls) (plain-left e .1) ∙ run-same table way known (plainRow (sheetOf (tableOf table)) .bits) refl calls
+
+  -- DEMAND 3 of the calls for C and Rust, closed: no assumption on the table, the way or the calls
   pub boundary-demand-3-from-plain-row : plainOutcome table lent .answer ≡ accepted 0 → (way : ℕ) (calls : List Call)
       → Right (wellFormed (tableOf table)) (wayOf way) (sheetOf (tableOf table)) (partsRun table way (plainOutcome table lent .slice) calls)
-  boundary-demand-3-from-plain-row e way calls = boundary-demand-3 table way (plainOutcome table lent .slice) (plain-left e) calls
+  boundary-demand-3-from-plain-row e way calls =
+      let t = tableOf table in
+      let (given, left) = plain-left e in
+      boundary-demand-3 table way (plainOutcome table lent .slice) (subst (λ (row : List ℕ). IsPlain (sheetOf t) (rowOf row)) (sym left) (plain-is-plain t (table-facts t given))) calls

@@ -18,7 +18,7 @@ ghost use mathlib.Core.Path.{_≡_};
 ghost use Prim.Native.Nat.{min};
 ghost use Rattle.exports.specs.Answers.{outcome, sheetOutcome, logOutcome};
 ghost use Rattle.exports.specs.Judging.{partEnds, judgeOutcome, plainOutcome, judgePartOutcome, isWay, wayOf};
-ghost use Rattle.exports.specs.Showing.{walkShown, pageOutcome};
+ghost use Rattle.exports.specs.Showing.{walkShown, pagePrinted};
 
 // The boundary's own question: a lent table or row has its fixed length.
 const LENGTH: u8 = 35;
@@ -77,11 +77,13 @@ pub extern "C" fn rozsvelen_plain_row(table: &[u16], row: &mut [u16]) -> u64
         return code(LENGTH, 0, 0);
     }
     let t = table_of(table);
-    if !sheet::is_given(t) {
-        return code(31, 0, 0);
+    let start = judge::plain_row(t);
+    if start.number != 0 {
+        return code(start.number, 0, 0);
     }
-    put_row(judge::plain_row(t), row);
-    code(0, 0, 0)
+    let plain = start.row;
+    put_row(plain, row);
+    code(start.number, 0, 0)
 }
 
 // Judges a part, given the row of the entry just outside it, and puts the row for the next part in its place. A refusal alters
@@ -171,12 +173,12 @@ fn entry_of(entry: u32) -> Entry
     Entry(entry as u16)
 }
 
-// The page of a sheet and a log in the first places of a slice, as many bytes as fit, and the count of these. It never refuses: a
-// refused sheet or log has a page of one line.
+// The page of a sheet and a log in the first places of a slice, and the count of its bytes. A page that is longer than the slice
+// is refused, and alters nothing. A refused sheet or log has a page of one line.
 #[no_mangle]
 pub extern "C" fn rozsvelen_page(rules: &[u8], steps: &[u8], page: &mut [u8]) -> u64
-    ensures { λ r. ⌜ outcome r (now (page .exit)) ≡ pageOutcome (now (rules .entry)) (now (steps .entry)) (now (page .entry)) ⌝ }
+    ensures { λ r. ⌜ outcome r (now (page .exit)) ≡ pagePrinted (now (rules .entry)) (now (steps .entry)) (now (page .entry)) ⌝ }
 {
-    let bytes = report::page(rules, steps, page);
-    code(0, 0, bytes)
+    let printed = report::page(rules, steps, page);
+    code(printed.number, 0, printed.bytes)
 }
