@@ -9,171 +9,51 @@ use aldlf::Used;
 ghost use Prim.Native.Nat.{_≤_};
 ghost use Rattle.aldlf.specs.Constants.{nodeLimit, automatonLimit, edgeLimit};
 
-// A refused sheet's table is all zeros, and no sheet gives it.
-pub(crate) fn refused() {
-    let a = sheet::read_sheet(b"T\nP,1\nM,1,0\nG,0\nE,0,1,0,0\nD,0,7\n");
-    let t = a.table;
-    io::write_all(1, b"a refused sheet's table: nodes ");
-    io::print_decimal(1, nodes_set(t) + t.used.nodes as u64);
-    io::write_all(1, b" automata ");
-    io::print_decimal(1, automata_set(t) + t.used.automata as u64);
-    io::write_all(1, b" edges ");
-    io::print_decimal(1, edges_set(t) + t.used.edges as u64);
-    given(b" ", t);
-}
-
-pub(crate) fn read() {
-    of(b"table of W: ", &super::W);
-    of(b"table of X: ", &super::X);
-    of(b"table of Y: ", &super::Y);
-    of(b"table of Z: ", &super::Z);
-    of(b"table of one node: ", b"T\n");
-    of(b"table of an empty sheet: ", b"");
-}
-
-// W's table with a node changed. Its nodes 0 and 1 stand above its automaton, node 2 below it.
-pub(crate) fn changed_nodes() {
-    let a = sheet::read_sheet(&super::W);
-    let w = a.table;
-    given(
-        b"an unused node with a number: ",
-        with_node(w, 63, line(0, 0, 1)),
-    );
-    given(
-        b"an unused node that is T: ",
-        with_node(w, 3, line(b'T', 0, 0)),
-    );
-    given(
-        b"a T line with a number: ",
-        with_node(w, 0, line(b'T', 0, 1)),
-    );
-    given(b"another letter: ", with_node(w, 0, line(b'Q', 0, 0)));
-    given(b"a fact out of range: ", with_node(w, 1, line(b'P', 32, 0)));
-    given(
-        b"a node that names itself: ",
-        with_node(w, 2, line(b'D', 0, 2)),
-    );
-    given(
-        b"a node of no automaton: ",
-        with_node(w, 2, line(b'B', 1, 0)),
-    );
-    given(
-        b"a node above the automaton that it names: ",
-        with_node(w, 1, line(b'D', 0, 0)),
-    );
-    given(b"B for D: ", with_node(w, 2, line(b'B', 0, 0)));
-}
-
-// W's table with an edge changed.
-pub(crate) fn changed_edges() {
-    let a = sheet::read_sheet(&super::W);
-    let w = a.table;
-    given(
-        b"an unused edge with a number: ",
-        with_edge(w, 255, edge(0, 0, 1, 0)),
-    );
-    given(
-        b"an edge that tests a node below its M line: ",
-        with_edge(w, 0, edge(0, 1, 2, 0)),
-    );
-    given(
-        b"an edge that tests the other node above it: ",
-        with_edge(w, 0, edge(0, 1, 1, 0)),
-    );
-    given(
-        b"an edge from no state: ",
-        with_edge(w, 0, edge(1, 1, 0, 0)),
-    );
-    given(
-        b"an edge of direction 3: ",
-        with_edge(w, 0, edge(0, 3, 0, 0)),
-    );
-}
-
-// W's table with its automaton changed, and tables whose numbers are far out of range.
-pub(crate) fn wild() {
-    let a = sheet::read_sheet(&super::W);
-    let w = a.table;
-    given(
-        b"an unused automaton with a number: ",
-        with_automaton(w, 15, automaton(0, 0, 1)),
-    );
-    given(
-        b"no state accepts: ",
-        with_automaton(w, 0, automaton(1, 0, 2)),
-    );
-    given(
-        b"a state that is not there accepts: ",
-        with_automaton(w, 0, automaton(1, 2, 2)),
-    );
-    given(
-        b"a state on no edge: ",
-        with_automaton(w, 0, automaton(2, 1, 2)),
-    );
-    given(
-        b"the M line above node 1: ",
-        with_automaton(w, 0, automaton(1, 1, 1)),
-    );
-    given(
-        b"the M line below the last node: ",
-        with_automaton(w, 0, automaton(1, 1, 3)),
-    );
-    given(
-        b"255 states: ",
-        with_automaton(w, 0, automaton(255, 65535, 255)),
-    );
-    let mut t = w;
-    t.used.nodes = 255;
-    given(b"255 nodes: ", t);
-    given(b"the greatest numbers everywhere: ", greatest());
-}
-
-fn of(name: &[u8], text: &[u8]) {
-    let a = sheet::read_sheet(text);
-    let t = a.table;
-    given(name, t);
-}
-
-// Prints whether some sheet gives the table.
-fn given(name: &[u8], t: Table) {
-    io::write_all(1, name);
-    if sheet::is_given(t) {
-        io::write_all(1, b"given\n");
+// Prints whether some sheet gives a sheet's table, or that table with a change; of a refused sheet's also what is set in it.
+pub(crate) fn tried(line: &[u8], t: Table) {
+    if cases::letter(line) == b'r' {
+        counted(
+            nodes_set(t) + t.used.nodes as u64,
+            automata_set(t) + t.used.automata as u64,
+            edges_set(t) + t.used.edges as u64,
+        );
+        io::write_all(1, b" ");
+    }
+    if sheet::is_given(changed(line, t)) {
+        io::write_all(1, b"given");
     } else {
-        io::write_all(1, b"not given\n");
+        io::write_all(1, b"not given");
     }
 }
 
-fn line(kind: u8, a: u8, b: u8) -> NodeLine {
-    NodeLine { kind, a, b }
+pub(crate) fn counted(nodes: u64, automata: u64, edges: u64) {
+    io::write_all(1, b"nodes ");
+    io::print_decimal(1, nodes);
+    io::write_all(1, b" automata ");
+    io::print_decimal(1, automata);
+    io::write_all(1, b" edges ");
+    io::print_decimal(1, edges);
 }
 
-fn edge(from: u8, dir: u8, test: u8, to: u8) -> Edge {
-    let f = State(from);
-    let n = Node(test);
-    let s = State(to);
-    Edge {
-        from: f,
-        dir,
-        test: n,
-        to: s,
+// The table with the change that a line asks for: a node, an edge, an automaton or the counts; or one all of the greatest numbers.
+fn changed(line: &[u8], t: Table) -> Table {
+    match cases::letter(line) {
+        b'n' => with_node(t, line),
+        b'e' => with_edge(t, line),
+        b'a' => with_automaton(t, line),
+        b'c' => with_counts(t, line),
+        b'g' => greatest(),
+        _ => t,
     }
 }
 
-// An automaton that starts in state 0 and has edge 0 only.
-fn automaton(states: u8, accepting: u16, before: u8) -> Automaton {
-    let r = State(0);
-    Automaton {
-        states,
-        start: r,
-        accepting,
-        first: 0,
-        count: 1,
-        before,
-    }
-}
-
-fn with_node(t: Table, k: usize, x: NodeLine) -> Table {
+fn with_node(t: Table, line: &[u8]) -> Table {
+    let x = NodeLine {
+        kind: cases::letter(cases::field(line, 4)),
+        a: byte(line, 5),
+        b: byte(line, 6),
+    };
+    let k = cases::number(cases::field(line, 3));
     let mut u = t;
     if k < aldlf::NODES {
         u.nodes[k] = x;
@@ -181,7 +61,17 @@ fn with_node(t: Table, k: usize, x: NodeLine) -> Table {
     u
 }
 
-fn with_edge(t: Table, e: usize, x: Edge) -> Table {
+fn with_edge(t: Table, line: &[u8]) -> Table {
+    let f = State(byte(line, 4));
+    let n = Node(byte(line, 6));
+    let s = State(byte(line, 7));
+    let x = Edge {
+        from: f,
+        dir: byte(line, 5),
+        test: n,
+        to: s,
+    };
+    let e = cases::number(cases::field(line, 3));
     let mut u = t;
     if e < aldlf::EDGES {
         u.edges[e] = x;
@@ -189,7 +79,9 @@ fn with_edge(t: Table, e: usize, x: Edge) -> Table {
     u
 }
 
-fn with_automaton(t: Table, m: usize, x: Automaton) -> Table {
+fn with_automaton(t: Table, line: &[u8]) -> Table {
+    let x = automaton(line);
+    let m = cases::number(cases::field(line, 3));
     let mut u = t;
     if m < aldlf::AUTOMATA {
         u.automata[m] = x;
@@ -197,10 +89,53 @@ fn with_automaton(t: Table, m: usize, x: Automaton) -> Table {
     u
 }
 
+fn automaton(line: &[u8]) -> Automaton {
+    let r = State(byte(line, 5));
+    Automaton {
+        states: byte(line, 4),
+        start: r,
+        accepting: half(line, 6),
+        first: half(line, 7),
+        count: half(line, 8),
+        before: byte(line, 9),
+    }
+}
+
+fn with_counts(t: Table, line: &[u8]) -> Table {
+    let used = Used {
+        nodes: byte(line, 3),
+        automata: byte(line, 4),
+        edges: half(line, 5),
+    };
+    let mut u = t;
+    u.used = used;
+    u
+}
+
+// A field as a number of 8 bits.
+fn byte(line: &[u8], k: usize) -> u8 {
+    (cases::number(cases::field(line, k)) % 256) as u8
+}
+
+// A field as a number of 16 bits.
+fn half(line: &[u8], k: usize) -> u16 {
+    (cases::number(cases::field(line, k)) % 65536) as u16
+}
+
 fn greatest() -> Table {
-    let x = line(255, 255, 255);
-    let e = edge(255, 255, 255, 255);
+    let x = NodeLine {
+        kind: 255,
+        a: 255,
+        b: 255,
+    };
     let r = State(255);
+    let n = Node(255);
+    let e = Edge {
+        from: r,
+        dir: 255,
+        test: n,
+        to: r,
+    };
     let m = Automaton {
         states: 255,
         start: r,
@@ -209,18 +144,15 @@ fn greatest() -> Table {
         count: 65535,
         before: 255,
     };
-    let nodes = [x; aldlf::NODES];
-    let automata = [m; aldlf::AUTOMATA];
-    let edges = [e; aldlf::EDGES];
     let used = Used {
         nodes: 255,
         automata: 255,
         edges: 65535,
     };
     Table {
-        nodes,
-        automata,
-        edges,
+        nodes: [x; aldlf::NODES],
+        automata: [m; aldlf::AUTOMATA],
+        edges: [e; aldlf::EDGES],
         used,
     }
 }
