@@ -2,6 +2,7 @@
 // A line's fields: what is tried, the case's name, its sheet, and for a changed table the numbers that are put there.
 mod tables;
 
+use aldlf::Table;
 use sheet::SheetAnswer;
 
 fn main() {
@@ -18,38 +19,50 @@ fn each(cases: &[u8]) {
     }
 }
 
+// Prints a case's name and its outcome.
 fn tried(line: &[u8]) {
     io::write_all(1, cases::field(line, 1));
-    io::write_all(1, b": ");
-    let a = answer(cases::field(line, 2));
+    io::write_all(1, b":");
     if cases::letter(line) == b's' {
-        said(a);
+        said(answer(line));
     } else {
-        let t = a.table;
-        tables::tried(line, t);
+        tables::tried(line);
     }
     io::write_all(1, b"\n");
 }
 
-// What reading a sheet answers. A byte more than a sheet may have finds room.
-fn answer(sheet: &[u8]) -> SheetAnswer {
+// What reading a case's sheet answers. A byte more than a sheet may have finds room.
+fn answer(line: &[u8]) -> SheetAnswer {
     let mut text = [0u8; text::BYTES + 1];
-    let n = cases::put_text(sheet, &mut text);
+    let n = cases::put_text(cases::field(line, 2), &mut text);
     sheet::read_sheet(&text[..n])
 }
 
 // Prints the answer's number and line, and the counts of an accepted sheet.
 fn said(a: SheetAnswer) {
-    io::print_decimal(1, a.number as u64);
-    io::write_all(1, b",");
-    io::print_decimal(1, a.line as u64);
+    numbered(a.number, a.line);
     if a.number == 0 {
         let t = a.table;
-        io::write_all(1, b" ");
-        tables::counted(
-            t.used.nodes as u64,
-            t.used.automata as u64,
-            t.used.edges as u64,
-        );
+        used(t);
     }
+}
+
+fn used(t: Table) {
+    counted(t.used.nodes, t.used.automata, t.used.edges);
+}
+
+fn numbered(number: u8, line: u16) {
+    labelled(b" ", number as u64);
+    labelled(b",", line as u64);
+}
+
+fn counted(nodes: u8, automata: u8, edges: u16) {
+    labelled(b" nodes ", nodes as u64);
+    labelled(b" automata ", automata as u64);
+    labelled(b" edges ", edges as u64);
+}
+
+fn labelled(label: &[u8], number: u64) {
+    io::write_all(1, label);
+    io::print_decimal(1, number);
 }

@@ -6,36 +6,39 @@ use aldlf::NodeLine;
 use aldlf::State;
 use aldlf::Table;
 use aldlf::Used;
-ghost use Prim.Native.Nat.{_≤_};
-ghost use Rattle.aldlf.specs.Constants.{nodeLimit, automatonLimit, edgeLimit};
 
-// Prints whether some sheet gives a sheet's table, or that table with a change; of a refused sheet's also what is set in it.
-pub(crate) fn tried(line: &[u8], t: Table) {
+// Prints whether some sheet gives a sheet's table, or that table with a change; of a refused sheet's also what it holds.
+pub(crate) fn tried(line: &[u8]) {
+    let a = super::answer(line);
+    let t = a.table;
     if cases::letter(line) == b'r' {
-        counted(
-            nodes_set(t) + t.used.nodes as u64,
-            automata_set(t) + t.used.automata as u64,
-            edges_set(t) + t.used.edges as u64,
-        );
-        io::write_all(1, b" ");
+        super::used(t);
+        first(t);
     }
-    if sheet::is_given(changed(line, t)) {
-        io::write_all(1, b"given");
+    given(sheet::is_given(changed(line, t)));
+}
+
+fn given(yes: bool) {
+    if yes {
+        io::write_all(1, b" given");
     } else {
-        io::write_all(1, b"not given");
+        io::write_all(1, b" not given");
     }
 }
 
-pub(crate) fn counted(nodes: u64, automata: u64, edges: u64) {
-    io::write_all(1, b"nodes ");
-    io::print_decimal(1, nodes);
-    io::write_all(1, b" automata ");
-    io::print_decimal(1, automata);
-    io::write_all(1, b" edges ");
-    io::print_decimal(1, edges);
+// Prints node 0's numbers.
+fn first(t: Table) {
+    let x = t.nodes[0];
+    held(x.kind, x.a, x.b);
 }
 
-// The table with the change that a line asks for: a node, an edge, an automaton or the counts; or one all of the greatest numbers.
+fn held(kind: u8, a: u8, b: u8) {
+    super::labelled(b" node 0 ", kind as u64);
+    super::labelled(b",", a as u64);
+    super::labelled(b",", b as u64);
+}
+
+// The table with the change that a line asks for: a node, an edge, an automaton, or a node and the counts; or one all of the greatest numbers.
 fn changed(line: &[u8], t: Table) -> Table {
     match cases::letter(line) {
         b'n' => with_node(t, line),
@@ -47,46 +50,63 @@ fn changed(line: &[u8], t: Table) -> Table {
     }
 }
 
-fn with_node(t: Table, line: &[u8]) -> Table {
-    let x = NodeLine {
-        kind: cases::letter(cases::field(line, 4)),
-        a: byte(line, 5),
-        b: byte(line, 6),
-    };
-    let k = cases::number(cases::field(line, 3));
-    let mut u = t;
+fn with_node(mut t: Table, line: &[u8]) -> Table {
+    let x = node(line);
+    let k = place(line);
     if k < aldlf::NODES {
-        u.nodes[k] = x;
+        t.nodes[k] = x;
     }
+    t
+}
+
+fn with_edge(mut t: Table, line: &[u8]) -> Table {
+    let x = edge(line);
+    let e = place(line);
+    if e < aldlf::EDGES {
+        t.edges[e] = x;
+    }
+    t
+}
+
+fn with_automaton(mut t: Table, line: &[u8]) -> Table {
+    let x = automaton(line);
+    let m = place(line);
+    if m < aldlf::AUTOMATA {
+        t.automata[m] = x;
+    }
+    t
+}
+
+// A node and the counts.
+fn with_counts(t: Table, line: &[u8]) -> Table {
+    let mut u = with_node(t, line);
+    let used = counts(line);
+    u.used = used;
     u
 }
 
-fn with_edge(t: Table, line: &[u8]) -> Table {
+fn place(line: &[u8]) -> usize {
+    cases::number(cases::field(line, 3))
+}
+
+fn node(line: &[u8]) -> NodeLine {
+    NodeLine {
+        kind: cases::letter(cases::field(line, 4)),
+        a: byte(line, 5),
+        b: byte(line, 6),
+    }
+}
+
+fn edge(line: &[u8]) -> Edge {
     let f = State(byte(line, 4));
     let n = Node(byte(line, 6));
     let s = State(byte(line, 7));
-    let x = Edge {
+    Edge {
         from: f,
         dir: byte(line, 5),
         test: n,
         to: s,
-    };
-    let e = cases::number(cases::field(line, 3));
-    let mut u = t;
-    if e < aldlf::EDGES {
-        u.edges[e] = x;
     }
-    u
-}
-
-fn with_automaton(t: Table, line: &[u8]) -> Table {
-    let x = automaton(line);
-    let m = cases::number(cases::field(line, 3));
-    let mut u = t;
-    if m < aldlf::AUTOMATA {
-        u.automata[m] = x;
-    }
-    u
 }
 
 fn automaton(line: &[u8]) -> Automaton {
@@ -101,15 +121,12 @@ fn automaton(line: &[u8]) -> Automaton {
     }
 }
 
-fn with_counts(t: Table, line: &[u8]) -> Table {
-    let used = Used {
-        nodes: byte(line, 3),
-        automata: byte(line, 4),
-        edges: half(line, 5),
-    };
-    let mut u = t;
-    u.used = used;
-    u
+fn counts(line: &[u8]) -> Used {
+    Used {
+        nodes: byte(line, 7),
+        automata: byte(line, 8),
+        edges: half(line, 9),
+    }
 }
 
 // A field as a number of 8 bits.
@@ -128,22 +145,8 @@ fn greatest() -> Table {
         a: 255,
         b: 255,
     };
-    let r = State(255);
-    let n = Node(255);
-    let e = Edge {
-        from: r,
-        dir: 255,
-        test: n,
-        to: r,
-    };
-    let m = Automaton {
-        states: 255,
-        start: r,
-        accepting: 65535,
-        first: 65535,
-        count: 65535,
-        before: 255,
-    };
+    let m = greatest_automaton();
+    let e = greatest_edge();
     let used = Used {
         nodes: 255,
         automata: 255,
@@ -157,58 +160,25 @@ fn greatest() -> Table {
     }
 }
 
-// How many places of a table are not all zeros.
-fn nodes_set(t: Table) -> u64
-    ensures { λ r. ⌜ r ≤ nodeLimit ⌝ }
-{
-    let mut n: u64 = 0;
-    let mut i: usize = 0;
-    while i < aldlf::NODES {
-        let x = t.nodes[i];
-        if (x.kind != 0) | (x.a != 0) | (x.b != 0) {
-            n += 1;
-        }
-        i += 1;
+fn greatest_automaton() -> Automaton {
+    let r = State(255);
+    Automaton {
+        states: 255,
+        start: r,
+        accepting: 65535,
+        first: 65535,
+        count: 65535,
+        before: 255,
     }
-    n
 }
 
-fn automata_set(t: Table) -> u64
-    ensures { λ r. ⌜ r ≤ automatonLimit ⌝ }
-{
-    let mut n: u64 = 0;
-    let mut i: usize = 0;
-    while i < aldlf::AUTOMATA {
-        let x = t.automata[i];
-        let r = x.start;
-        if (x.states != 0)
-            | (r.0 != 0)
-            | (x.accepting != 0)
-            | (x.first != 0)
-            | (x.count != 0)
-            | (x.before != 0)
-        {
-            n += 1;
-        }
-        i += 1;
+fn greatest_edge() -> Edge {
+    let s = State(255);
+    let n = Node(255);
+    Edge {
+        from: s,
+        dir: 255,
+        test: n,
+        to: s,
     }
-    n
-}
-
-fn edges_set(t: Table) -> u64
-    ensures { λ r. ⌜ r ≤ edgeLimit ⌝ }
-{
-    let mut n: u64 = 0;
-    let mut i: usize = 0;
-    while i < aldlf::EDGES {
-        let x = t.edges[i];
-        let f = x.from;
-        let a = x.test;
-        let s = x.to;
-        if (f.0 != 0) | (x.dir != 0) | (a.0 != 0) | (s.0 != 0) {
-            n += 1;
-        }
-        i += 1;
-    }
-    n
 }

@@ -1,10 +1,12 @@
 -- answer is safe: the text's bytes lie within the buffer. Assumes nothing.
 use borrow.Author.Needs.{needs}
 use mathlib.Core.Path.{sym}
-use native.Mathlib.Omega.{arith}
 use lib.Seq.{length-take-le}
 use Rattle.sheet_tests.proofs.answer.Statement.{statement}
 use Rattle.sheet_tests.proofs.answer.Tie as tie
+
+field-requires : tie.Need-field-requires
+field-requires c κs = search needs
 
 slice-aggregate-put-text : tie.Need-slice-aggregate-put-text
 slice-aggregate-put-text c = search needs
@@ -30,6 +32,7 @@ pub answer-spec : {M : Type 1} → statement M
 answer-spec =
     tie.close
     (tie.spec
+    field-requires
     slice-aggregate-put-text
     put-text-requires
     array-share-prefix-text
