@@ -6,277 +6,179 @@ use aldlf::NodeLine;
 use aldlf::State;
 use aldlf::Table;
 use aldlf::Used;
-ghost use Prim.Native.Nat.{_≤_};
-ghost use Rattle.aldlf.specs.Constants.{nodeLimit, automatonLimit, edgeLimit};
 
-// A refused sheet's table is all zeros, and no sheet gives it.
-pub(crate) fn refused() {
-    let a = sheet::read_sheet(b"T\nP,1\nM,1,0\nG,0\nE,0,1,0,0\nD,0,7\n");
+// Prints whether some sheet gives a sheet's table, or that table with a change; of a refused sheet's also what it holds.
+pub(crate) fn tried(line: &[u8]) {
+    let a = super::answer(line);
     let t = a.table;
-    io::write_all(1, b"a refused sheet's table: nodes ");
-    io::print_decimal(1, nodes_set(t) + t.used.nodes as u64);
-    io::write_all(1, b" automata ");
-    io::print_decimal(1, automata_set(t) + t.used.automata as u64);
-    io::write_all(1, b" edges ");
-    io::print_decimal(1, edges_set(t) + t.used.edges as u64);
-    given(b" ", t);
+    if cases::letter(line) == b'r' {
+        super::used(t);
+        first(t);
+    }
+    given(sheet::is_given(changed(line, t)));
 }
 
-pub(crate) fn read() {
-    of(b"table of W: ", &super::W);
-    of(b"table of X: ", &super::X);
-    of(b"table of Y: ", &super::Y);
-    of(b"table of Z: ", &super::Z);
-    of(b"table of one node: ", b"T\n");
-    of(b"table of an empty sheet: ", b"");
-}
-
-// W's table with a node changed. Its nodes 0 and 1 stand above its automaton, node 2 below it.
-pub(crate) fn changed_nodes() {
-    let a = sheet::read_sheet(&super::W);
-    let w = a.table;
-    given(
-        b"an unused node with a number: ",
-        with_node(w, 63, line(0, 0, 1)),
-    );
-    given(
-        b"an unused node that is T: ",
-        with_node(w, 3, line(b'T', 0, 0)),
-    );
-    given(
-        b"a T line with a number: ",
-        with_node(w, 0, line(b'T', 0, 1)),
-    );
-    given(b"another letter: ", with_node(w, 0, line(b'Q', 0, 0)));
-    given(b"a fact out of range: ", with_node(w, 1, line(b'P', 32, 0)));
-    given(
-        b"a node that names itself: ",
-        with_node(w, 2, line(b'D', 0, 2)),
-    );
-    given(
-        b"a node of no automaton: ",
-        with_node(w, 2, line(b'B', 1, 0)),
-    );
-    given(
-        b"a node above the automaton that it names: ",
-        with_node(w, 1, line(b'D', 0, 0)),
-    );
-    given(b"B for D: ", with_node(w, 2, line(b'B', 0, 0)));
-}
-
-// W's table with an edge changed.
-pub(crate) fn changed_edges() {
-    let a = sheet::read_sheet(&super::W);
-    let w = a.table;
-    given(
-        b"an unused edge with a number: ",
-        with_edge(w, 255, edge(0, 0, 1, 0)),
-    );
-    given(
-        b"an edge that tests a node below its M line: ",
-        with_edge(w, 0, edge(0, 1, 2, 0)),
-    );
-    given(
-        b"an edge that tests the other node above it: ",
-        with_edge(w, 0, edge(0, 1, 1, 0)),
-    );
-    given(
-        b"an edge from no state: ",
-        with_edge(w, 0, edge(1, 1, 0, 0)),
-    );
-    given(
-        b"an edge of direction 3: ",
-        with_edge(w, 0, edge(0, 3, 0, 0)),
-    );
-}
-
-// W's table with its automaton changed, and tables whose numbers are far out of range.
-pub(crate) fn wild() {
-    let a = sheet::read_sheet(&super::W);
-    let w = a.table;
-    given(
-        b"an unused automaton with a number: ",
-        with_automaton(w, 15, automaton(0, 0, 1)),
-    );
-    given(
-        b"no state accepts: ",
-        with_automaton(w, 0, automaton(1, 0, 2)),
-    );
-    given(
-        b"a state that is not there accepts: ",
-        with_automaton(w, 0, automaton(1, 2, 2)),
-    );
-    given(
-        b"a state on no edge: ",
-        with_automaton(w, 0, automaton(2, 1, 2)),
-    );
-    given(
-        b"the M line above node 1: ",
-        with_automaton(w, 0, automaton(1, 1, 1)),
-    );
-    given(
-        b"the M line below the last node: ",
-        with_automaton(w, 0, automaton(1, 1, 3)),
-    );
-    given(
-        b"255 states: ",
-        with_automaton(w, 0, automaton(255, 65535, 255)),
-    );
-    let mut t = w;
-    t.used.nodes = 255;
-    given(b"255 nodes: ", t);
-    given(b"the greatest numbers everywhere: ", greatest());
-}
-
-fn of(name: &[u8], text: &[u8]) {
-    let a = sheet::read_sheet(text);
-    let t = a.table;
-    given(name, t);
-}
-
-// Prints whether some sheet gives the table.
-fn given(name: &[u8], t: Table) {
-    io::write_all(1, name);
-    if sheet::is_given(t) {
-        io::write_all(1, b"given\n");
+fn given(yes: bool) {
+    if yes {
+        io::write_all(1, b" given");
     } else {
-        io::write_all(1, b"not given\n");
+        io::write_all(1, b" not given");
     }
 }
 
-fn line(kind: u8, a: u8, b: u8) -> NodeLine {
-    NodeLine { kind, a, b }
+// Prints node 0's numbers.
+fn first(t: Table) {
+    let x = t.nodes[0];
+    held(x.kind, x.a, x.b);
 }
 
-fn edge(from: u8, dir: u8, test: u8, to: u8) -> Edge {
-    let f = State(from);
-    let n = Node(test);
-    let s = State(to);
+fn held(kind: u8, a: u8, b: u8) {
+    super::labelled(b" node 0 ", kind as u64);
+    super::labelled(b",", a as u64);
+    super::labelled(b",", b as u64);
+}
+
+// The table with the change that a line asks for: a node, an edge, an automaton, or a node and the counts; or one all of the greatest numbers.
+fn changed(line: &[u8], t: Table) -> Table {
+    match cases::letter(line) {
+        b'n' => with_node(t, line),
+        b'e' => with_edge(t, line),
+        b'a' => with_automaton(t, line),
+        b'c' => with_counts(t, line),
+        b'g' => greatest(),
+        _ => t,
+    }
+}
+
+fn with_node(mut t: Table, line: &[u8]) -> Table {
+    let x = node(line);
+    let k = place(line);
+    if k < aldlf::NODES {
+        t.nodes[k] = x;
+    }
+    t
+}
+
+fn with_edge(mut t: Table, line: &[u8]) -> Table {
+    let x = edge(line);
+    let e = place(line);
+    if e < aldlf::EDGES {
+        t.edges[e] = x;
+    }
+    t
+}
+
+fn with_automaton(mut t: Table, line: &[u8]) -> Table {
+    let x = automaton(line);
+    let m = place(line);
+    if m < aldlf::AUTOMATA {
+        t.automata[m] = x;
+    }
+    t
+}
+
+// A node and the counts.
+fn with_counts(t: Table, line: &[u8]) -> Table {
+    let mut u = with_node(t, line);
+    let used = counts(line);
+    u.used = used;
+    u
+}
+
+fn place(line: &[u8]) -> usize {
+    cases::number(cases::field(line, 3))
+}
+
+fn node(line: &[u8]) -> NodeLine {
+    NodeLine {
+        kind: cases::letter(cases::field(line, 4)),
+        a: byte(line, 5),
+        b: byte(line, 6),
+    }
+}
+
+fn edge(line: &[u8]) -> Edge {
+    let f = State(byte(line, 4));
+    let n = Node(byte(line, 6));
+    let s = State(byte(line, 7));
     Edge {
         from: f,
-        dir,
+        dir: byte(line, 5),
         test: n,
         to: s,
     }
 }
 
-// An automaton that starts in state 0 and has edge 0 only.
-fn automaton(states: u8, accepting: u16, before: u8) -> Automaton {
-    let r = State(0);
+fn automaton(line: &[u8]) -> Automaton {
+    let r = State(byte(line, 5));
     Automaton {
-        states,
+        states: byte(line, 4),
         start: r,
-        accepting,
-        first: 0,
-        count: 1,
-        before,
+        accepting: half(line, 6),
+        first: half(line, 7),
+        count: half(line, 8),
+        before: byte(line, 9),
     }
 }
 
-fn with_node(t: Table, k: usize, x: NodeLine) -> Table {
-    let mut u = t;
-    if k < aldlf::NODES {
-        u.nodes[k] = x;
+fn counts(line: &[u8]) -> Used {
+    Used {
+        nodes: byte(line, 7),
+        automata: byte(line, 8),
+        edges: half(line, 9),
     }
-    u
 }
 
-fn with_edge(t: Table, e: usize, x: Edge) -> Table {
-    let mut u = t;
-    if e < aldlf::EDGES {
-        u.edges[e] = x;
-    }
-    u
+// A field as a number of 8 bits.
+fn byte(line: &[u8], k: usize) -> u8 {
+    (cases::number(cases::field(line, k)) % 256) as u8
 }
 
-fn with_automaton(t: Table, m: usize, x: Automaton) -> Table {
-    let mut u = t;
-    if m < aldlf::AUTOMATA {
-        u.automata[m] = x;
-    }
-    u
+// A field as a number of 16 bits.
+fn half(line: &[u8], k: usize) -> u16 {
+    (cases::number(cases::field(line, k)) % 65536) as u16
 }
 
 fn greatest() -> Table {
-    let x = line(255, 255, 255);
-    let e = edge(255, 255, 255, 255);
-    let r = State(255);
-    let m = Automaton {
-        states: 255,
-        start: r,
-        accepting: 65535,
-        first: 65535,
-        count: 65535,
-        before: 255,
+    let x = NodeLine {
+        kind: 255,
+        a: 255,
+        b: 255,
     };
-    let nodes = [x; aldlf::NODES];
-    let automata = [m; aldlf::AUTOMATA];
-    let edges = [e; aldlf::EDGES];
+    let m = greatest_automaton();
+    let e = greatest_edge();
     let used = Used {
         nodes: 255,
         automata: 255,
         edges: 65535,
     };
     Table {
-        nodes,
-        automata,
-        edges,
+        nodes: [x; aldlf::NODES],
+        automata: [m; aldlf::AUTOMATA],
+        edges: [e; aldlf::EDGES],
         used,
     }
 }
 
-// How many places of a table are not all zeros.
-fn nodes_set(t: Table) -> u64
-    ensures { λ r. ⌜ r ≤ nodeLimit ⌝ }
-{
-    let mut n: u64 = 0;
-    let mut i: usize = 0;
-    while i < aldlf::NODES {
-        let x = t.nodes[i];
-        if (x.kind != 0) | (x.a != 0) | (x.b != 0) {
-            n += 1;
-        }
-        i += 1;
+fn greatest_automaton() -> Automaton {
+    let r = State(255);
+    Automaton {
+        states: 255,
+        start: r,
+        accepting: 65535,
+        first: 65535,
+        count: 65535,
+        before: 255,
     }
-    n
 }
 
-fn automata_set(t: Table) -> u64
-    ensures { λ r. ⌜ r ≤ automatonLimit ⌝ }
-{
-    let mut n: u64 = 0;
-    let mut i: usize = 0;
-    while i < aldlf::AUTOMATA {
-        let x = t.automata[i];
-        let r = x.start;
-        if (x.states != 0)
-            | (r.0 != 0)
-            | (x.accepting != 0)
-            | (x.first != 0)
-            | (x.count != 0)
-            | (x.before != 0)
-        {
-            n += 1;
-        }
-        i += 1;
+fn greatest_edge() -> Edge {
+    let s = State(255);
+    let n = Node(255);
+    Edge {
+        from: s,
+        dir: 255,
+        test: n,
+        to: s,
     }
-    n
-}
-
-fn edges_set(t: Table) -> u64
-    ensures { λ r. ⌜ r ≤ edgeLimit ⌝ }
-{
-    let mut n: u64 = 0;
-    let mut i: usize = 0;
-    while i < aldlf::EDGES {
-        let x = t.edges[i];
-        let f = x.from;
-        let a = x.test;
-        let s = x.to;
-        if (f.0 != 0) | (x.dir != 0) | (a.0 != 0) | (s.0 != 0) {
-            n += 1;
-        }
-        i += 1;
-    }
-    n
 }
