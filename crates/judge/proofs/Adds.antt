@@ -5,10 +5,10 @@ use native.Mathlib.Numerals.{add-one}
 use mathlib.Core.Path.{_≡_, refl, sym, subst, ap, ap₂, _∙_}
 use mathlib.Core.Logic.{_⊎_, inl, inr}
 use mathlib.Core.Bool.{Bool, true, false}
-use mathlib.Core.List.{List}
+use mathlib.Core.List.{List, _++_}
 use lib.Dec.{eqb, ltb}
-use lib.ListN.{getD, length, set, length-set, take, replicate}
-use lib.Seq.{ext-getD, getD-set-same, getD-set-other, length-take-le}
+use lib.ListN.{getD, length, set, length-set, take, drop, replicate}
+use lib.Seq.{ext-getD, getD-set-same, getD-set-other, getD-take, length-take-le, drop-cons, set-at, append-snoc, take-suc, take-at, length-front}
 use borrow.Author.Tests.{eqb-true, eqb-false, ltb-true, ltb-false}
 use Rattle.aldlf.specs.Constants.{nodeLimit, entryLimit}
 use Rattle.aldlf.specs.Outcomes.{one, packBits, countBelow, tabulate}
@@ -53,23 +53,34 @@ pub count-cong : (n : ℕ) (f g : ℕ → Bool) → ((i : ℕ) → i < n → f i
 count-cong zero f g e = refl
 count-cong (suc n) f g e = ap₂ (λ (b : Bool) (x : ℕ). one b + x) (e n (omega arith)) (count-cong n f g (λ i l. e i (omega arith)))
 
-pub cleared-next : (l : List ℕ) (i : ℕ) → i < length l → ((j : ℕ) → j < i → at l j ≡ 0) → (j : ℕ) → j < i + 1 → at (set l i 0) j ≡ 0
-cleared-next l i h f j lj = go (bool-cases (eqb j i))
-  where
-    go : (eqb j i ≡ true) ⊎ (eqb j i ≡ false) → at (set l i 0) j ≡ 0
-    go (inl p) = ap (at (set l i 0)) (eqb-true j i p) ∙ getD-set-same l i 0 0 h
-    go (inr p) = let ne = eqb-false j i p in getD-set-other l i j 0 0 ne ∙ f j (omega arith)
+-- one word more in the first places of a buffer
+pub put-next : (buffer words : List ℕ) (i : ℕ) → i < length buffer → i < length words → set (take i words ++ drop i buffer) i (getD words i 0) ≡ take (i + 1) words ++ drop (i + 1) buffer
+put-next buffer words i hb hw =
+    rw (add-one i, drop-cons buffer i 0 hb)
+    (set-at (take i words) (getD buffer i 0) (drop (suc i) buffer) (getD words i 0) i (length-take-le i words (omega arith))
+    ∙ sym (append-snoc (take i words) (getD words i 0) (drop (suc i) buffer))
+    ∙ ap (λ (r : List ℕ). r ++ drop (suc i) buffer) (sym (take-suc words i 0 hw)))
 
 -- the first places of an array of zeros
-pub zeros-long : (n : ℕ) → n ≤ entryLimit → let z : ℕ = 0 in length (take n (replicate entryLimit z)) ≡ n
-zeros-long n l = length-take-le n (replicate entryLimit 0) l
-
--- Arrays of 64 ------------------------------------------------------------------------------------------------------------------
-
 zeros-at : (n j : ℕ) → let z : ℕ = 0 in getD (replicate n z) j z ≡ z
 zeros-at zero j = refl
 zeros-at (suc n) zero = refl
 zeros-at (suc n) (suc j) = zeros-at n j
+
+pub zeros-long : (n : ℕ) → n ≤ entryLimit → let z : ℕ = 0 in length (take n (replicate entryLimit z)) ≡ n
+zeros-long n l = length-take-le n (replicate entryLimit 0) l
+
+pub zeros-first : (n i : ℕ) → i < n → let z : ℕ = 0 in at (take n (replicate entryLimit z)) i ≡ 0
+zeros-first n i l = getD-take n (replicate entryLimit 0) i 0 l ∙ zeros-at entryLimit i
+
+-- and the array after they were lent and came back as w
+pub lent-room : (n : ℕ) (w : List ℕ) → n ≤ entryLimit → length w ≡ n → n ≤ length (w ++ drop n (replicate entryLimit 0))
+lent-room n w l e = subst (λ (k : ℕ). n ≤ k) (sym (length-front (replicate entryLimit 0) w n (e ∙ sym (zeros-long n l)))) l
+
+pub lent-put : (n : ℕ) (w buffer : List ℕ) → length w ≡ n → take n (w ++ drop n (replicate entryLimit 0)) ++ drop (length (take n (w ++ drop n (replicate entryLimit 0)))) buffer ≡ w ++ drop n buffer
+lent-put n w buffer e = ap (λ (l : List ℕ). l ++ drop (length l) buffer) (take-at w (drop n (replicate entryLimit 0)) n e) ∙ ap (λ (k : ℕ). w ++ drop k buffer) e
+
+-- Arrays of 64 ------------------------------------------------------------------------------------------------------------------
 
 module _ (f : ℕ → ℕ) where
   pub filled-start : Filled f (replicate nodeLimit 0) 0

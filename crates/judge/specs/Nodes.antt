@@ -3,9 +3,9 @@ use Prim.Native.Nat.{ℕ, zero, suc, _+_, _-_, _^_, _%_, _≤_, _<_}
 use mathlib.Core.Path.{_≡_}
 use mathlib.Core.Logic.{_⊎_}
 use mathlib.Core.Bool.{Bool, true, false, not, _&&_, _||_}
-use mathlib.Core.List.{List}
+use mathlib.Core.List.{List, _++_}
 use lib.Dec.{eqb}
-use lib.ListN.{getD, length}
+use lib.ListN.{getD, length, drop}
 use Rattle.aldlf.specs.Constants.{nodeLimit, stateLimit, letterP, letterN, letterA, letterO, letterD, letterB}
 use Rattle.aldlf.specs.Sheet.{Sheet, Line, T, F, P, N, A, O, D, B, bit, sheetOf}
 use Rattle.aldlf.specs.Parts.{Bits, rowEntry}
@@ -121,3 +121,9 @@ pub record CoreDone (p : Part) (log words : List ℕ) (r : CoreAnswer) : Type 0 
   pub row-is : r .row ≡ packRow (rowOf (p .way) (sheetOf (p .table)) log (bitsOf (p .row)))
   pub words-are : words ≡ partWords (sheetOf (p .table)) (bitsOf (p .row)) log
   pub held-is : r .held ≡ heldAfter (sheetOf (p .table)) (bitsOf (p .row)) log (p .table .used .nodes)
+
+-- The same, with the words in the first places of a buffer and the rest of it kept.
+pub record CorePut (p : Part) (log before after : List ℕ) (r : CoreAnswer) : Type 0 where
+  pub words : List ℕ
+  pub done : CoreDone p log words r
+  pub put : after ≡ words ++ drop (length log) before

@@ -10,11 +10,12 @@ use aldlf::Way;
 ghost use mathlib.Core.Path.{_≡_};
 ghost use mathlib.Core.Bool.{true, false};
 ghost use Prim.Native.Nat.{ℕ, _≤_, _<_};
-ghost use lib.ListN.{length};
+ghost use mathlib.Core.List.{_++_};
+ghost use lib.ListN.{length, drop};
 ghost use Rattle.aldlf.specs.Constants.{entryLimit, edgeLimit};
 ghost use Rattle.sheet.specs.Facts.{TableFacts};
 ghost use Rattle.reach.specs.Marks.{at};
-ghost use Rattle.judge.specs.Nodes.{Packed, CoreDone, modalKind};
+ghost use Rattle.judge.specs.Nodes.{Packed, CoreDone, CorePut, modalKind};
 
 // A log or a part to judge: the table, the way that parts are cut, and the row of the entry beside it.
 pub(crate) struct Part {
@@ -29,23 +30,33 @@ pub(crate) struct CoreAnswer {
     pub(crate) held: usize,
 }
 
-// The verdict words of a log or a part, the row that it gives and the count held.
+// The verdict words of a log or a part, in the first places of `verdicts`, the row that it gives and the count held.
 // Edges are packed once, so that no table is copied for an entry; scratch is lent only as long as the log.
-pub(crate) fn judge_core(part: Part, log: &[u32], words: &mut [u64]) -> CoreAnswer
+pub(crate) fn judge_core(part: Part, log: &[u32], verdicts: &mut [u64]) -> CoreAnswer
     requires { ⌜ TableFacts (part .table) ⌝ }
-    requires { ⌜ (length (now words) ≡ length (now log)) × (length (now log) ≤ entryLimit) ⌝ }
-    ensures { λ r. ⌜ CoreDone part (now (log .entry)) (now (words .exit)) r ⌝ }
+    requires { ⌜ (length (now log) ≤ length (now verdicts)) × (length (now log) ≤ entryLimit) ⌝ }
+    ensures { λ r. ⌜ CorePut part (now (log .entry)) (now (verdicts .entry)) (now (verdicts .exit)) r ⌝ }
 {
     let mut edges = [0u32; aldlf::EDGES];
+    let mut words = [0u64; aldlf::ENTRIES];
     let mut masks = [0u16; aldlf::ENTRIES];
     let mut todo = [0u16; aldlf::ENTRIES];
     let table = part.table;
     pack_edges(table, &mut edges);
     let n = log.len();
-    judge_nodes(part, log, &edges, words, &mut masks[..n], &mut todo[..n])
+    let a = judge_nodes(
+        part,
+        log,
+        &edges,
+        &mut words[..n],
+        &mut masks[..n],
+        &mut todo[..n],
+    );
+    put_words(&words[..n], verdicts);
+    a
 }
 
-// The nodes in order, each from the words of those before it.
+// The nodes in order, each from the words of those before it; at first all words are 0.
 fn judge_nodes(
     part: Part,
     log: &[u32],
@@ -57,9 +68,9 @@ fn judge_nodes(
     requires { ⌜ TableFacts (part .table) ⌝ }
     requires { ⌜ Packed (part .table) (part .table .used .edges) (now edges) ⌝ }
     requires { ⌜ (length (now words) ≡ length (now log)) × (length (now masks) ≡ length (now log)) × (length (now todo) ≡ length (now log)) ⌝ }
+    requires { ⌜ ((i : ℕ) → i < length (now log) → at (now words) i ≡ 0) ⌝ }
     ensures { λ r. ⌜ CoreDone part (now (log .entry)) (now (words .exit)) r ⌝ }
 {
-    clear(words);
     let mut out = [0u16; aldlf::NODES];
     let mut held: usize = 0;
     let table = part.table;
@@ -110,13 +121,14 @@ fn pack_edges(table: Table, edges: &mut [u32])
     }
 }
 
-// All words 0.
-fn clear(words: &mut [u64])
-    ensures { λ _. ⌜ ((i : ℕ) → i < length (now (words .entry)) → at (now (words .exit)) i ≡ 0) ⌝ }
+// The words in the first places of the buffer; the rest keeps its content.
+fn put_words(words: &[u64], verdicts: &mut [u64])
+    requires { ⌜ length (now words) ≤ length (now verdicts) ⌝ }
+    ensures { λ _. ⌜ now (verdicts .exit) ≡ now (words .entry) ++ drop (length (now (words .entry))) (now (verdicts .entry)) ⌝ }
 {
     let mut i: usize = 0;
     while i < words.len() {
-        words[i] = 0;
+        verdicts[i] = words[i];
         i += 1;
     }
 }

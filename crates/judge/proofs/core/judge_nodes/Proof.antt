@@ -29,23 +29,23 @@ abbrev μ-loop : tie.MeasureT-loop
 μ-loop log edges words₀ masks₀ todo₀ out₀ held₀ table row way count k₀ words masks todo out held k = count - k
 
 k-in : (c : tie.In-loop Inv-loop μ-loop) → c .before .loop .k < nodeLimit
-k-in c = omega (arith, c .loop-test .taken, c .before .before .before .before .before .before .before .before .before .before .before .before .before .pre .0 .nodes≤)
+k-in c = omega (arith, c .loop-test .taken, c .before .before .before .before .before .before .before .before .before .pre .0 .nodes≤)
 
 m-in : (c : tie.After-automaton-number Inv-loop μ-loop) → c .automaton-number .result < automatonLimit
 m-in c =
-    let S = c .before .before .before .before .before .before .before .before .before .before .before .before .before .before .before in
+    let S = c .before .before .before .before .before .before .before .before .before .before .before in
     automaton-there (S .args .part .table) (S .pre .0) (c .before .before .before .loop .k) (c .automaton-number .result) (c .automaton-number .ensures)
 
 job : (c : tie.After-judge-node-arg3 Inv-loop μ-loop) → Job
 job c =
-    let p = c .before .before .before .before .before .before .before .before .before .before .before .before .before .before .before .before .before .before .before .before .args .part in
+    let p = c .before .before .before .before .before .before .before .before .before .before .before .before .before .before .before .before .args .part in
     let k = c .before .before .before .before .before .before .before .before .loop .k in
     record { number = record { 0 = k }; line = nodeAt (p .table) k; automaton = automatonAt (p .table) (c .before .before .before .before .before .automaton-number .result); given = getD (p .row .bits) k 0; way = p .way }
 
-known : (c : tie.After-judge-node-arg3 Inv-loop μ-loop) → let S = c .before .before .before .before .before .before .before .before .before .before .before .before .before .before .before .before .before .before .before .before in Known (S .args .part .table) (S .args .part .row) (job c) (now (S .args .log)) (now (S .args .edges)) (c .before .before .before .before .before .before .before .before .loop .words)
+known : (c : tie.After-judge-node-arg3 Inv-loop μ-loop) → let S = c .before .before .before .before .before .before .before .before .before .before .before .before .before .before .before .before in Known (S .args .part .table) (S .args .part .row) (job c) (now (S .args .log)) (now (S .args .edges)) (c .before .before .before .before .before .before .before .before .loop .words)
 unfolding job
 known c =
-    let S = c .before .before .before .before .before .before .before .before .before .before .before .before .before .before .before .before .before .before .before .before in
+    let S = c .before .before .before .before .before .before .before .before .before .before .before .before .before .before .before .before in
     let l = c .before .before .before .before .before .before .before .before .loop in
     record {
       facts = S .pre .0;
@@ -57,12 +57,9 @@ known c =
       words-are = l .inv .3;
     }
 
-clear-requires : tie.Need-clear-requires Inv-loop μ-loop
-clear-requires c κs = search needs
-
 loop-holds : tie.Need-loop-holds Inv-loop μ-loop
-loop-holds c = let S = c .before .before .before .before .before .before .before .before .before .before .before in
-    (omega arith, S .pre .1 .1 .1, S .pre .1 .1 .2, words-none _ _ _ _ (c .before .before .before .before .clear .kept .0 ∙ S .pre .1 .1 .0) (λ i l. c .before .before .before .before .clear .ensures i (omega (arith, S .pre .1 .1 .0))), filled-start _, refl)
+loop-holds c = let S = c .before .before .before .before .before .before .before in
+    (omega arith, S .pre .1 .1 .0 .1, S .pre .1 .1 .0 .2, words-none _ _ _ _ (S .pre .1 .1 .0 .0) (S .pre .1 .1 .1), filled-start _, refl)
 
 cast-line : tie.Need-cast-line Inv-loop μ-loop
 cast-line c = search needs
@@ -85,18 +82,18 @@ mul-automaton c = omega (arith, m-in c)
 element-copy-out-automaton : tie.Need-element-copy-out-automaton Inv-loop μ-loop
 element-copy-out-automaton c = m-in c
 
-cast-t23 : tie.Need-cast-t23 Inv-loop μ-loop
-cast-t23 c = search needs
+cast-t20 : tie.Need-cast-t20 Inv-loop μ-loop
+cast-t20 c = search needs
 
-mul-t24 : tie.Need-mul-t24 Inv-loop μ-loop
-mul-t24 c = omega (arith, k-in (c .before .before .before))
+mul-t21 : tie.Need-mul-t21 Inv-loop μ-loop
+mul-t21 c = omega (arith, k-in (c .before .before .before))
 
-element-copy-out-t34 : tie.Need-element-copy-out-t34 Inv-loop μ-loop
-element-copy-out-t34 c = k-in (c .before .before .before)
+element-copy-out-t31 : tie.Need-element-copy-out-t31 Inv-loop μ-loop
+element-copy-out-t31 c = k-in (c .before .before .before)
 
 judge-node-requires : tie.Need-judge-node-requires Inv-loop μ-loop
 unfolding job
-judge-node-requires c κs = let S = c .before .before .before .before .before .before .before .before .before .before .before .before .before .before .before .before .before .before .before .before in let l = c .before .before .before .before .before .before .before .before .loop in ((S .args .part .table, S .args .part .row, known c), (l .inv .1, l .inv .2))
+judge-node-requires c κs = let S = c .before .before .before .before .before .before .before .before .before .before .before .before .before .before .before .before in let l = c .before .before .before .before .before .before .before .before .loop in ((S .args .part .table, S .args .part .row, known c), (l .inv .1, l .inv .2))
 
 cast-out : tie.Need-cast-out Inv-loop μ-loop
 cast-out c = search needs
@@ -115,7 +112,7 @@ loop-less c = omega (arith, c .before .before .before .before .before .before .b
 
 loop-again : tie.Need-loop-again Inv-loop μ-loop
 unfolding job
-loop-again c = let S = c .before .before .before .before .before .before .before .before .before .before .before .before .before .before .before .before .before .before .before .before .before .before .before .before .before .before .before in
+loop-again c = let S = c .before .before .before .before .before .before .before .before .before .before .before .before .before .before .before .before .before .before .before .before .before .before .before in
     let l = c .before .before .before .before .before .before .before .before .before .before .before .before .before .before .before .loop in
     let r = c .before .before .before .before .before .before .judge-node in
     let d = r .ensures (S .args .part .table) (S .args .part .row) (known (c .before .before .before .before .before .before .before)) in (
@@ -128,17 +125,17 @@ loop-again c = let S = c .before .before .before .before .before .before .before
     )
 
 same-length : tie.Need-same-length Inv-loop μ-loop
-same-length c = c .before .loop .inv .3 .size ∙ sym (c .before .before .before .before .before .before .before .before .before .before .before .before .before .pre .1 .1 .0)
+same-length c = c .before .loop .inv .3 .size ∙ sym (c .before .before .before .before .before .before .before .before .before .pre .1 .1 .0 .0)
 
 same-length-2 : tie.Need-same-length-2 Inv-loop μ-loop
-same-length-2 c = c .before .loop .inv .1 ∙ sym (c .before .before .before .before .before .before .before .before .before .before .before .before .before .pre .1 .1 .1)
+same-length-2 c = c .before .loop .inv .1 ∙ sym (c .before .before .before .before .before .before .before .before .before .pre .1 .1 .0 .1)
 
 same-length-3 : tie.Need-same-length-3 Inv-loop μ-loop
-same-length-3 c = c .before .loop .inv .2 ∙ sym (c .before .before .before .before .before .before .before .before .before .before .before .before .before .pre .1 .1 .2)
+same-length-3 c = c .before .loop .inv .2 ∙ sym (c .before .before .before .before .before .before .before .before .before .pre .1 .1 .0 .2)
 
 returns : tie.Need-returns Inv-loop μ-loop
 unfolding sheetOf
-returns c = let S = c .before .before .before .before .before .before .before .before .before .before .before .before .before in
+returns c = let S = c .before .before .before .before .before .before .before .before .before in
     let l = c .before .loop in
     let p = S .args .part in
     let end : l .k ≡ p .table .used .nodes = omega (arith, l .inv .0, c .loop-test .left) in
@@ -156,7 +153,6 @@ judge-nodes-spec =
     (tie.spec
     Inv-loop
     μ-loop
-    clear-requires
     loop-holds
     cast-line
     mul-line
@@ -165,9 +161,9 @@ judge-nodes-spec =
     cast-automaton
     mul-automaton
     element-copy-out-automaton
-    cast-t23
-    mul-t24
-    element-copy-out-t34
+    cast-t20
+    mul-t21
+    element-copy-out-t31
     judge-node-requires
     cast-out
     mul-out
