@@ -1,15 +1,15 @@
--- `listed` is safe and ends. Assumes nothing.
+-- `places` is safe and ends: each index is below the length. Assumes nothing.
 use Prim.Native.Nat.{_≤_, _-_}
-use borrow.Author.Needs.{needs}
 use lib.ListN.{length}
-use Rattle.worked.proofs.jobs.listed.Statement.{statement}
-use Rattle.worked.proofs.jobs.listed.Tie as tie
+use borrow.Author.Needs.{needs}
+use Rattle.walk_tests.proofs.show.places.Statement.{statement}
+use Rattle.walk_tests.proofs.show.places.Tie as tie
 
 abbrev Inv-loop : tie.InvT-loop
-Inv-loop edges count i₀ i = i ≤ length edges
+Inv-loop edges i₀ t3 i = i ≤ length edges
 
 abbrev μ-loop : tie.MeasureT-loop
-μ-loop edges count i₀ i = length edges - i
+μ-loop edges i₀ t3 i = length edges - i
 
 loop-holds : tie.Need-loop-holds Inv-loop μ-loop
 loop-holds c = search needs
@@ -35,11 +35,17 @@ loop-less c = search needs
 loop-again : tie.Need-loop-again Inv-loop μ-loop
 loop-again c = search needs
 
+slice-aggregate-write-all : tie.Need-slice-aggregate-write-all Inv-loop μ-loop
+slice-aggregate-write-all c = search needs
+
+write-all-requires : tie.Need-write-all-requires Inv-loop μ-loop
+write-all-requires c κs = search needs
+
 returns : tie.Need-returns Inv-loop μ-loop
 returns c = search needs
 
-pub listed-spec : {M : Type 1} → statement M
-listed-spec =
+pub places-spec : {M : Type 1} → statement M
+places-spec =
     tie.close
     (tie.spec
     Inv-loop
@@ -52,4 +58,6 @@ listed-spec =
     add-i
     loop-less
     loop-again
+    slice-aggregate-write-all
+    write-all-requires
     returns)

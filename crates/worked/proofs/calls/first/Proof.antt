@@ -3,8 +3,8 @@ use borrow.Author.Needs.{needs}
 use denote.Ref.{now}
 use lib.Seq.{length-take-le}
 use mathlib.Core.Path.{sym}
-use Rattle.worked.proofs.jobs.first.Statement.{statement}
-use Rattle.worked.proofs.jobs.first.Tie as tie
+use Rattle.worked.proofs.calls.first.Statement.{statement}
+use Rattle.worked.proofs.calls.first.Tie as tie
 
 slice-aggregate-result : tie.Need-slice-aggregate-result
 slice-aggregate-result c =

@@ -1,30 +1,27 @@
--- `column` is safe and ends. Assumes nothing.
+-- `listed` is safe and ends. Assumes nothing.
 use Prim.Native.Nat.{_≤_, _-_}
 use borrow.Author.Needs.{needs}
 use lib.ListN.{length}
-use Rattle.worked.proofs.jobs.column.Statement.{statement}
-use Rattle.worked.proofs.jobs.column.Tie as tie
+use Rattle.worked.proofs.show.listed.Statement.{statement}
+use Rattle.worked.proofs.show.listed.Tie as tie
 
 abbrev Inv-loop : tie.InvT-loop
-Inv-loop words count k i₀ i = i ≤ length words
+Inv-loop edges count i₀ i = i ≤ length edges
 
 abbrev μ-loop : tie.MeasureT-loop
-μ-loop words count k i₀ i = length words - i
+μ-loop edges count i₀ i = length edges - i
 
 loop-holds : tie.Need-loop-holds Inv-loop μ-loop
 loop-holds c = search needs
 
-mul-number : tie.Need-mul-number Inv-loop μ-loop
-mul-number c = search needs
+mul-wide : tie.Need-mul-wide Inv-loop μ-loop
+mul-wide c = search needs
 
-shared-slice-read-number : tie.Need-shared-slice-read-number Inv-loop μ-loop
-shared-slice-read-number c = search needs
+shared-slice-read-wide : tie.Need-shared-slice-read-wide Inv-loop μ-loop
+shared-slice-read-wide c = search needs
 
-cast-number : tie.Need-cast-number Inv-loop μ-loop
-cast-number c = search needs
-
-shr-number : tie.Need-shr-number Inv-loop μ-loop
-shr-number c = search needs
+wide-requires : tie.Need-wide-requires Inv-loop μ-loop
+wide-requires c κs = search needs
 
 number-requires : tie.Need-number-requires Inv-loop μ-loop
 number-requires c κs = search needs
@@ -41,17 +38,16 @@ loop-again c = search needs
 returns : tie.Need-returns Inv-loop μ-loop
 returns c = search needs
 
-pub column-spec : {M : Type 1} → statement M
-column-spec =
+pub listed-spec : {M : Type 1} → statement M
+listed-spec =
     tie.close
     (tie.spec
     Inv-loop
     μ-loop
     loop-holds
-    mul-number
-    shared-slice-read-number
-    cast-number
-    shr-number
+    mul-wide
+    shared-slice-read-wide
+    wide-requires
     number-requires
     add-i
     loop-less
