@@ -10,4 +10,4 @@ use Rattle.aldlf.specs.Jobs.{AllRight, jobs}
 pub worked : AllRight (λ t. true) jobs
 unfolding sheetOf judge rowOf partWords wholeNumber wholeOutcome partNumber partOutcome walkIn walkOf walkNumber walkOutcome
 worked =
-    (refl, (refl, (refl, (refl, (refl, (refl, (refl, (refl, (refl, (refl, (refl, (refl, (refl, (refl, (refl, ((refl, refl), ((refl, refl), ((refl, refl), ((refl, refl), tt)))))))))))))))))))
+    ((refl, refl), ((refl, refl), ((refl, refl), ((refl, refl), ((refl, refl), ((refl, refl), ((refl, refl), ((refl, refl), ((refl, refl), ((refl, refl), ((refl, refl), (refl, (refl, (refl, (refl, ((refl, refl, refl), ((refl, refl, refl), ((refl, refl, refl), ((refl, refl, refl), tt)))))))))))))))))))

@@ -1,13 +1,13 @@
 -- The starred jobs that document 01 works by hand, as one list, and what it is for all of them to come out right.
-use Prim.Native.Nat.{ℕ, zero, suc}
+use Prim.Native.Nat.{ℕ, zero, suc, _+_}
 use mathlib.Core.Path.{_≡_}
 use mathlib.Core.Bool.{Bool, true, false}
-use mathlib.Core.List.{List, [], _∷_}
+use mathlib.Core.List.{List, [], _∷_, _++_}
 use lib.ListN.{length, replicate}
 use Rattle.aldlf.specs.Constants.{nodeLimit, automatonLimit, edgeLimit, letterT, letterF, letterP, letterN, letterO, letterD, letterB}
 use Rattle.aldlf.specs.Sheet.{sheetOf, noLine, noEdge, noAutomaton, bit}
-use Rattle.aldlf.specs.Outcomes.{one, bitsOf, plainRow, wholeOutcome, Part, partOutcome}
-use Rattle.aldlf.specs.Walks.{walkOutcome}
+use Rattle.aldlf.specs.Outcomes.{one, bitsOf, plainRow, Whole, wholeOutcome, Part, partOutcome}
+use Rattle.aldlf.specs.Walks.{Shown, walkOutcome}
 use Rattle.aldlf.specs.declared.Table.{Table}
 use Rattle.aldlf.specs.declared.NodeLine.{NodeLine}
 use Rattle.aldlf.specs.declared.Edge.{Edge}
@@ -75,10 +75,19 @@ circle accepting =
 
 -- Jobs -------------------------------------------------------------------------------------------------------------------------
 
--- Bit k of each word.
-abbrev column : ℕ → List ℕ → List ℕ
-column k [] = []
-column k (w ∷ ws) = one (bit w k) ∷ column k ws
+-- A buffer as it is lent: n places and two more, all 9.
+abbrev lent : ℕ → List ℕ
+lent n = replicate (n + 2) 9
+
+-- A buffer with what is wanted in its first places; the two more are as lent.
+abbrev filled : List ℕ → List ℕ
+filled wanted = wanted ++ lent 0
+
+-- A buffer with bit k in place of each of its first n words; the others are as they are.
+abbrev column : (k n : ℕ) → List ℕ → List ℕ
+column k zero ws = ws
+column k (suc n) [] = []
+column k (suc n) (w ∷ ws) = one (bit w k) ∷ column k n ws
 
 -- The words of facts 0, 1, 2 and of none: `0`, `1`, `2`, `-`.
 abbrev f0 : ℕ
@@ -97,17 +106,29 @@ pub data Job : Type 0 where
   refused : Table → (log : List ℕ) → (k i : ℕ) → (number : ℕ) → Job
   part : Table → Row → (words : List ℕ) → (k : ℕ) → List ℕ → (bit0 : Bool) → Job
 
--- Right by the defined outcomes, where `given` answers question 31.
+-- By the defined outcomes, where `given` answers question 31:
 module _ (given : Table → Bool) where
+  -- judging a whole log, judging a part and showing a walk of n edges, each with a lent buffer
+  abbrev wholeOf : Table → List ℕ → Whole
+  wholeOf t log = wholeOutcome (given t) (sheetOf t) log (lent (length log))
+
   abbrev pub partOf : Table → Row → List ℕ → Part
-  partOf t row words = partOutcome (given t) Ahead (sheetOf t) row words (replicate (length words) 0)
+  partOf t row words = partOutcome (given t) Ahead (sheetOf t) row words (lent (length words))
 
+  abbrev shownOf : Table → List ℕ → (k i n : ℕ) → Shown
+  shownOf t log k i n = walkOutcome (given t) (sheetOf t) log k i (lent n)
+
+  -- a job is right: the number (0: accepted) and the whole buffer are as wanted
   abbrev pub JobRight : Job → Type 0
-  JobRight (verdicts t log k wanted) = column k (wholeOutcome (given t) (sheetOf t) log (replicate (length log) 0) .buffer) ≡ wanted
-  JobRight (walk t log k i wanted) = walkOutcome (given t) (sheetOf t) log k i (replicate (length wanted) 0) ≡ record { number = 0; count = length wanted; buffer = wanted }
-  JobRight (refused t log k i number) = walkOutcome (given t) (sheetOf t) log k i [] ≡ record { number = number; count = 0; buffer = [] }
-  JobRight (part t row words k wanted bit0) = (column k (partOf t row words .buffer) ≡ wanted) × (bitsOf (partOf t row words .row) k 0 ≡ bit0)
+  JobRight (verdicts t log k wanted) = (wholeOf t log .number ≡ 0) × (column k (length log) (wholeOf t log .buffer) ≡ filled wanted)
+  JobRight (walk t log k i wanted) = shownOf t log k i (length wanted) ≡ record { number = 0; count = length wanted; buffer = filled wanted }
+  JobRight (refused t log k i number) = shownOf t log k i 1 ≡ record { number = number; count = 0; buffer = lent 1 }
+  JobRight (part t row words k wanted bit0) =
+      (partOf t row words .number ≡ 0)
+      × (column k (length words) (partOf t row words .buffer) ≡ filled wanted)
+      × (bitsOf (partOf t row words .row) k 0 ≡ bit0)
 
+  -- all of them are
   abbrev pub AllRight : List Job → Type 0
   AllRight [] = Unit {0}
   AllRight (j ∷ js) = JobRight j × AllRight js

@@ -15,7 +15,7 @@ use Rattle.worked.specs.Sheets.{AllRead, texts}
 pub starred : AllRight wellFormed jobs
 unfolding sheetOf judge rowOf partWords wholeNumber wholeOutcome partNumber partOutcome walkIn walkOf walkNumber walkOutcome wellFormed usedFits nodesFit nodeFits automataFit headFits edgesFit edgeFits nodesEnd automataEnd edgesEnd whole each someEdge plainFrom
 starred =
-    (refl, (refl, (refl, (refl, (refl, (refl, (refl, (refl, (refl, (refl, (refl, (refl, (refl, (refl, (refl, ((refl, refl), ((refl, refl), ((refl, refl), ((refl, refl), tt)))))))))))))))))))
+    ((refl, refl), ((refl, refl), ((refl, refl), ((refl, refl), ((refl, refl), ((refl, refl), ((refl, refl), ((refl, refl), ((refl, refl), ((refl, refl), ((refl, refl), (refl, (refl, (refl, (refl, ((refl, refl, refl), ((refl, refl, refl), ((refl, refl, refl), ((refl, refl, refl), tt)))))))))))))))))))
 
 pub sheets-read : AllRead texts
 unfolding pieces lines addDigit digits number sheet.parsed sheet.knownLine sheet.allNumbers sheet.roomLeft sheet.belongs sheet.inRange sheet.newlyAccepting sheet.plainFrom sheet.plainStep sheet.question sheet.withNode sheet.withAutomaton sheet.withAccepting sheet.withEdge sheet.withLine sheet.added sheet.someEdge sheet.each sheet.whole sheet.finish sheet.readLines sheet.readSheet

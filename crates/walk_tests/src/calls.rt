@@ -1,0 +1,93 @@
+// The calls. The buffer of a walk is lent as nines.
+use super::show;
+use aldlf::Entry;
+use aldlf::Node;
+use aldlf::Table;
+use joblog::LogAnswer;
+ghost use Rattle.io.specs.Counts.{Counts};
+
+// One entry more than a log may have.
+const MOST: usize = aldlf::ENTRIES + 1;
+
+// Asks for a walk in a buffer of six places, and shows them.
+pub(crate) fn walk(line: &[u8]) {
+    let mut log = [0u32; MOST];
+    let mut edges = [9u16; 6];
+    let n = words_of(line, &mut log);
+    walk_in(line, &log[..n], &mut edges);
+    show::places(&edges);
+}
+
+// Asks for it in the first places of a buffer, as many as the case says, and shows the answer.
+pub(crate) fn walk_in(line: &[u8], log: &[u32], edges: &mut [u16]) {
+    let node = Node((number(line, 4) % 256) as u8);
+    let entry = Entry((number(line, 5) % 65536) as u16);
+    let m = room(line, &*edges);
+    show::answer(walk::walk(table(line), log, node, entry, &mut edges[..m]));
+}
+
+// The shorter of two walks; of equally long ones the first.
+pub(crate) fn shorter() {
+    let one = [7u16];
+    let two = [1u16, 2];
+    let pair = [3u16, 4];
+    io::write_all(1, b"the second is shorter:");
+    show::places(walk::shorter(&two, &one));
+    io::write_all(1, b"the first is shorter:");
+    show::places(walk::shorter(&one, &two));
+    io::write_all(1, b"equally long:");
+    show::places(walk::shorter(&two, &pair));
+    io::write_all(1, b"none is shorter:");
+    show::places(walk::shorter(&two, &one[..0]));
+}
+
+// How many words are lent: one for each entry, as far as there are places.
+fn words_of(line: &[u8], words: &mut [u32]) -> usize
+    ensures { λ r. ⌜ Counts r (now (words .exit)) ⌝ }
+{
+    let n = entries(line, words);
+    if words.len() < n {
+        return words.len();
+    }
+    n
+}
+
+// The entries of the case's log, read into words. A log of 513 is refused at line 513, and its words are left as they were.
+fn entries(line: &[u8], words: &mut [u32]) -> usize {
+    let mut bytes = io::buffer();
+    let n = text_of(line, 3, &mut bytes);
+    match joblog::read_log(&bytes[..n], words) {
+        LogAnswer::Read(count) => count,
+        LogAnswer::Refused(_, k) => k,
+    }
+}
+
+// How many places are lent: as many as the case says, as far as there are.
+fn room(line: &[u8], places: &[u16]) -> usize
+    ensures { λ r. ⌜ Counts r (now (places .entry)) ⌝ }
+{
+    let n = number(line, 6);
+    if places.len() < n {
+        return places.len();
+    }
+    n
+}
+
+// The table of the case's sheet.
+fn table(line: &[u8]) -> Table {
+    let mut bytes = io::buffer();
+    let n = text_of(line, 2, &mut bytes);
+    sheet::read_sheet(&bytes[..n]).table
+}
+
+// The text in a field.
+fn text_of(line: &[u8], k: usize, bytes: &mut [u8]) -> usize
+    ensures { λ r. ⌜ Counts r (now (bytes .exit)) ⌝ }
+{
+    cases::put_text(cases::field(line, k), bytes)
+}
+
+// The number in a field.
+fn number(line: &[u8], k: usize) -> usize {
+    cases::number(cases::field(line, k))
+}

@@ -1,0 +1,62 @@
+// What is printed of an outcome.
+
+// A text was read.
+pub(crate) fn read() {
+    io::write_all(1, b" read");
+}
+
+// A refusal's number.
+pub(crate) fn refused(q: u8) {
+    io::write_all(1, b" refused");
+    number(q as u64);
+}
+
+// A refusal's number and line.
+pub(crate) fn refused_at(q: u8, line: usize) {
+    refused(q);
+    io::write_all(1, b" at line");
+    number(line as u64);
+}
+
+// Node k's bit in each of the first words.
+pub(crate) fn column(words: &[u64], count: usize, k: usize) {
+    let mut i: usize = 0;
+    while i < words.len() {
+        if i < count {
+            number(words[i] >> (k % 64) & 1);
+        }
+        i += 1;
+    }
+}
+
+// Bit 0 of node 2's number in a row.
+pub(crate) fn bit_0(bits: u16) {
+    io::write_all(1, b", bit 0 of number 2:");
+    number(wide(bits) % 2);
+}
+
+// A walk, so many edges long.
+pub(crate) fn walk(edges: &[u16], count: usize) {
+    io::write_all(1, b" walk");
+    listed(edges, count);
+}
+
+// The first numbers of a buffer.
+fn listed(edges: &[u16], count: usize) {
+    let mut i: usize = 0;
+    while i < edges.len() {
+        if i < count {
+            number(wide(edges[i]));
+        }
+        i += 1;
+    }
+}
+
+fn number(n: u64) {
+    io::write_all(1, b" ");
+    io::print_decimal(1, n);
+}
+
+fn wide(x: u16) -> u64 {
+    x as u64
+}
