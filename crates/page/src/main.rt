@@ -28,10 +28,11 @@ fn read_steps(rules: &[u8]) {
     }
 }
 
-// Prints the page.
+// Prints the page. No page is longer than `out`.
 fn print_page(rules: &[u8], steps: &[u8]) {
     let mut out = [0u8; report::BYTES];
-    let n = report::page(rules, steps, &mut out);
+    let p = report::page(rules, steps, &mut out);
+    let n = p.bytes;
     if !io::write_all(STDOUT_FILENO, &out[..n]) {
         os::fail(b"standard output");
     }

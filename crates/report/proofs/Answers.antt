@@ -21,7 +21,7 @@ use Rattle.judge.specs.Answers.{wholeOf, isHeld}
 use Rattle.judge.proofs.QuestionLaws.{three-yes}
 use Rattle.judge.specs.declared.Judged.{Judged}
 use Rattle.judge.specs.declared.Judged.the-variants as judged
-use Rattle.report.specs.Lines.{refusalLine, verdictLines, walkLine}
+use Rattle.lines.specs.Lines.{refusalLine, verdictLines, walkLine}
 use Rattle.report.specs.Page.{refusedWalk, shownLine, judgedPage}
 
 -- a log that was read

@@ -1,21 +1,20 @@
 -- Every page is at most 40,000 bytes long: at most 512 lines of 6 bytes, a line for the rule, and a walk of at most 8,191 edges of at most 4 bytes.
-use Prim.Native.Nat.{ℕ, zero, suc, _*_, _≤_, _<_, min}
-use mathlib.Core.Path.{_≡_, refl, ap, _∙_}
+use Prim.Native.Nat.{ℕ, zero, suc, _≤_}
+use mathlib.Core.Path.{_≡_, refl, ap, sym, _∙_}
 use mathlib.Core.Bool.{Bool, true, false, cond, _||_}
 use mathlib.Core.List.{List, [], _∷_, _++_}
 use native.Mathlib.Omega.{arith}
 use borrow.Author.Tests.{leb-true}
-use lib.ListN.{length, getD, take, drop, replicate, length-append, length-take, length-replicate}
+use lib.ListN.{length, take, drop, replicate, length-append, length-take, length-replicate}
 use lib.Seq.{take-at}
 use lib.Dec.{eqb, leb}
-use Rattle.aldlf.specs.Constants.{entryLimit, edgeLimit}
+use Rattle.aldlf.specs.Constants.{entryLimit}
 use Rattle.aldlf.specs.Sheet.{sheetOf}
-use Rattle.aldlf.specs.Outcomes.{one, logFits, wholeNumber, wholeOutcome}
+use Rattle.aldlf.specs.Outcomes.{logFits, wholeNumber, wholeOutcome}
 use Rattle.aldlf.specs.Walks.{Shown, edgesOf, walkOf, walkOutcome}
 use Rattle.aldlf.specs.declared.Table.{Table}
 use Rattle.aldlf.proofs.Bools.{and-left, and-right}
 use Rattle.text.specs.Text.{byteLimit}
-use Rattle.reach.specs.Marks.{verdictIn}
 use Rattle.sheet.specs.Questions.{readSheet}
 use Rattle.sheet.specs.Given.{wellFormed}
 use Rattle.sheet.specs.declared.SheetAnswer.{SheetAnswer}
@@ -23,60 +22,13 @@ use Rattle.sheet.specs.Facts.{TableFacts}
 use Rattle.sheet.proofs.Facts.{table-facts}
 use Rattle.walk.proofs.Questions.{outcome-0, outcome-most}
 use Rattle.joblog.specs.Log.{LogRead, entries, refused, readLog}
-use Rattle.report.specs.Lines.{verdictDigit, refusalLine, entryLine, entriesBelow, ruleLine, verdictLines, edgesBelow, walkLine, noWalkLine, printedIn}
-use Rattle.report.specs.Page.{walkLimit, pageLimit, ruleOf, refusedWalk, shownLine, walkPage, judgedPage, tablePage, logPage, sheetPage, pageOf}
-use Rattle.report.proofs.Storing.{printed-whole}
-use Rattle.report.proofs.Decimals.{decimal-length}
+use Rattle.lines.specs.Lines.{refusalLine, verdictLines, walkLine, noWalkLine}
+use Rattle.report.specs.Page.{walkLimit, pageLimit, ruleOf, refusedWalk, shownLine, walkPage, judgedPage, tablePage, logPage, sheetPage, pageOf, Printed, printedOf, placed, pageOutcome}
+use Rattle.report.specs.declared.PageAnswer.{PageAnswer}
+use Rattle.lines.proofs.Lengths.{refusal-length, verdicts-length, walk-length}
+use Rattle.report.proofs.Placed.{placed-fits, placed-count}
 use Rattle.report.proofs.Numbers.{first-le, Small, sheet-small, SmallLog, log-small, held-le, edges-small}
 use Rattle.report.proofs.Answers.{whole-number, whole-yes, whole-held}
-
--- a refusal
-refusal-length : (q k : ℕ) → q < 100 → k < 100000 → length (refusalLine q k) ≤ 17
-unfolding refusalLine
-refusal-length q k hq hk = simp length-append (omega (arith, decimal-length 1 q hq, decimal-length 4 k hk))
-
-verdict-le : (w k : ℕ) → verdictDigit w k < 10
-verdict-le w k = go (verdictIn w k)
-  where
-    go : (b : Bool) → one b < 10
-    go true = omega arith
-    go false = omega arith
-
-entry-length : (i v : ℕ) → i < 1000 → v < 10 → length (entryLine i v) ≤ 6
-unfolding entryLine
-entry-length i v hi hv = simp length-append (omega (arith, decimal-length 2 i hi, decimal-length 0 v hv))
-
-entries-length : (rule : ℕ) (words : List ℕ) (n : ℕ) → n ≤ 1000 → length (entriesBelow rule words n) ≤ 6 * n
-unfolding entriesBelow
-entries-length rule words zero h = omega arith
-entries-length rule words (suc n) h =
-    let e = entryLine n (verdictDigit (getD words n 0) rule) in
-    omega (arith, length-append (entriesBelow rule words n) e, entries-length rule words n (omega arith), entry-length n (verdictDigit (getD words n 0) rule) (omega arith) (verdict-le (getD words n 0) rule))
-
-rule-length : (v held n : ℕ) → v < 10 → held < 1000 → n < 1000 → length (ruleLine v held n) ≤ 23
-unfolding ruleLine
-rule-length v held n hv hh hn = simp length-append (omega (arith, decimal-length 0 v hv, decimal-length 2 held hh, decimal-length 2 n hn))
-
-verdicts-length : (rule held : ℕ) (words : List ℕ) → held ≤ entryLimit → length words ≤ entryLimit → length (verdictLines rule held words) ≤ 3095
-unfolding verdictLines
-verdicts-length rule held words hh hw =
-    let r = ruleLine (verdictDigit (getD words 0 0) rule) held (length words) in
-    omega (
-      arith,
-      length-append (entriesBelow rule words (length words)) r,
-      entries-length rule words (length words) (omega arith),
-      rule-length (verdictDigit (getD words 0 0) rule) held (length words) (verdict-le (getD words 0 0) rule) (omega arith) (omega arith),
-    )
-
-edges-length : (es : List ℕ) (n : ℕ) → ((x : ℕ) → getD es x 0 < edgeLimit) → length (edgesBelow es n) ≤ 4 * n
-unfolding edgesBelow
-edges-length es zero h = omega arith
-edges-length es (suc n) h =
-    simp length-append (omega (arith, edges-length es n h, decimal-length 2 (getD es n 0) (omega (arith, h n))))
-
-walk-length : (es : List ℕ) → length es ≤ walkLimit → ((x : ℕ) → getD es x 0 < edgeLimit) → length (walkLine es) ≤ 32774
-unfolding walkLine
-walk-length es l h = simp length-append (omega (arith, decimal-length 3 (length es) (omega arith), edges-length es (length es) h))
 
 refused-walk-length : (q : ℕ) → q ≤ 40 → length (refusedWalk q) ≤ 17
 unfolding refusedWalk noWalkLine
@@ -153,9 +105,22 @@ pub page-fits : (rules steps : List ℕ) → length (pageOf rules steps) ≤ pag
 unfolding pageOf
 page-fits rules steps = sheet-page-length (readSheet rules) steps (sheet-small rules)
 
--- so a buffer of that many bytes takes every page whole: what page answers is its length, and the bytes are all there
-pub page-whole : (rules steps out : List ℕ) → pageLimit ≤ length out
-    → (min (length (pageOf rules steps)) (length out) ≡ length (pageOf rules steps)) × (printedIn (pageOf rules steps) out ≡ pageOf rules steps ++ drop (length (pageOf rules steps)) out)
-page-whole rules steps out h =
-    let f = page-fits rules steps in
-    (omega arith, printed-whole (pageOf rules steps) out (omega arith))
+-- so a buffer of that many bytes takes every page whole
+pub page-whole : (rules steps lent : List ℕ) → pageLimit ≤ length lent
+    → pageOutcome rules steps lent ≡ record { number = 0; count = length (pageOf rules steps); buffer = pageOf rules steps ++ drop (length (pageOf rules steps)) lent }
+unfolding pageOutcome
+page-whole rules steps lent h = placed-fits (pageOf rules steps) lent (omega (arith, page-fits rules steps))
+
+-- and is never refused
+pub page-never-refused : (rules steps lent : List ℕ) → pageLimit ≤ length lent → pageOutcome rules steps lent .number ≡ 44 → ⊥
+page-never-refused rules steps lent h e =
+    let z : _≡_ {A = ℕ} 0 44 = sym (ap (λ (p : Printed). p .number) (page-whole rules steps lent h)) ∙ e in
+    absurd (omega arith)
+
+-- what a caller may take from an answer: the bytes are within the buffer, and within the limit
+pub page-bytes : (rules steps lent after : List ℕ) (r : PageAnswer) → printedOf r after ≡ pageOutcome rules steps lent → (r .bytes ≤ length lent) × (r .bytes ≤ pageLimit)
+unfolding pageOutcome
+page-bytes rules steps lent after r e =
+    let c : r .bytes ≡ placed (pageOf rules steps) lent .count = ap (λ (p : Printed). p .count) e in
+    let (room, all) = placed-count (pageOf rules steps) lent in
+    (omega arith, omega (arith, page-fits rules steps))

@@ -1,6 +1,5 @@
-pub mod Storing
-pub mod Decimals
 pub mod Pages
+pub mod Placed
 pub mod Answers
 pub mod Worked
 pub mod Numbers

@@ -8,10 +8,15 @@ use Rattle.aldlf.specs.Walks.{walkIn, walkOf, walkNumber, walkOutcome}
 use Rattle.sheet.specs.Questions as sheet
 use Rattle.sheet.specs.Given.{nodeFits, edgeFits, headFits, edgesFit, usedFits, nodesFit, automataFit, nodesEnd, automataEnd, edgesEnd, wellFormed}
 use Rattle.joblog.specs.Log as log
-use Rattle.report.specs.Lines.{digitsOf, decimal, refusalLine, entryLine, entriesBelow, ruleLine, verdictLines, edgesBelow, walkLine, noWalkLine}
-use Rattle.report.specs.Page.{refusedWalk, shownLine, walkPage, judgedPage, tablePage, sheetPage, pageOf}
-use Rattle.report.specs.Examples.{AllPrint, examples}
+use Rattle.appending.specs.Appending.{digitsOf, decimal}
+use Rattle.lines.specs.Lines.{refusalLine, entryLine, entriesBelow, ruleLine, verdictLines, edgesBelow, walkLine, noWalkLine}
+use Rattle.report.specs.Page.{refusedWalk, shownLine, walkPage, judgedPage, tablePage, sheetPage, pageOf, placed, pageOutcome}
+use Rattle.report.specs.Examples.{AllPrint, examples, AllAnswer, lendings}
 
 pub all-print : AllPrint examples
 unfolding pieces lines addDigit digits number sheetOf judge partWords heldIn wholeNumber wholeOutcome walkIn walkOf walkNumber walkOutcome sheet.parsed sheet.knownLine sheet.allNumbers sheet.roomLeft sheet.belongs sheet.inRange sheet.newlyAccepting sheet.plainFrom sheet.plainStep sheet.question sheet.withNode sheet.withAutomaton sheet.withAccepting sheet.withEdge sheet.withLine sheet.added sheet.someEdge sheet.each sheet.whole sheet.finish sheet.readLines sheet.readSheet nodeFits edgeFits headFits edgesFit usedFits nodesFit automataFit nodesEnd automataEnd edgesEnd wellFormed log.allBelow log.rising log.wordOf log.factsOf log.readLines log.readLog digitsOf decimal refusalLine entryLine entriesBelow ruleLine verdictLines edgesBelow walkLine noWalkLine refusedWalk shownLine walkPage judgedPage tablePage sheetPage pageOf
 all-print = (refl, (refl, (refl, (refl, (refl, (refl, tt))))))
+
+pub all-answer : AllAnswer lendings
+unfolding pieces lines addDigit digits number sheet.parsed sheet.knownLine sheet.allNumbers sheet.roomLeft sheet.belongs sheet.inRange sheet.newlyAccepting sheet.plainFrom sheet.plainStep sheet.question sheet.withNode sheet.withAutomaton sheet.withAccepting sheet.withEdge sheet.withLine sheet.added sheet.someEdge sheet.each sheet.whole sheet.finish sheet.readLines sheet.readSheet digitsOf decimal refusalLine sheetPage pageOf placed pageOutcome
+all-answer = (refl, (refl, (refl, tt)))

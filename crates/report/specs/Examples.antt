@@ -1,8 +1,9 @@
--- Pages worked by hand: the texts of a sheet and a log, and the bytes that are to be printed.
+-- Pages worked by hand: the texts of a sheet and a log, the bytes that are to be printed, and what a lent buffer holds after it.
 use Prim.Native.Nat.{ℕ}
-use mathlib.Core.List.{List, [], _∷_}
+use mathlib.Core.List.{List, [], _∷_, _++_}
 use mathlib.Core.Path.{_≡_}
-use Rattle.report.specs.Page.{pageOf}
+use lib.ListN.{replicate}
+use Rattle.report.specs.Page.{pageOf, Printed, pageOutcome}
 
 -- a sheet, a log and its page
 pub record Example : Type 0 where
@@ -14,6 +15,14 @@ pub record Example : Type 0 where
 abbrev pub AllPrint : List Example → Type 0
 AllPrint [] = Unit {0}
 AllPrint (e ∷ es) = (pageOf (e .rules) (e .steps) ≡ e .page) × AllPrint es
+
+-- `M,1,0` `T`: a sheet whose page is the line of a refusal, 13 bytes
+abbrev pub refusedRules : List ℕ
+refusedRules = 77 ∷ 44 ∷ 49 ∷ 44 ∷ 48 ∷ 10 ∷ 84 ∷ 10 ∷ []
+
+-- `refused,10,1`
+abbrev pub refusedPage : List ℕ
+refusedPage = 114 ∷ 101 ∷ 102 ∷ 117 ∷ 115 ∷ 101 ∷ 100 ∷ 44 ∷ 49 ∷ 48 ∷ 44 ∷ 49 ∷ 10 ∷ []
 
 -- document 01's page, and one of each kind
 abbrev pub examples : List Example
@@ -43,15 +52,29 @@ examples =
       page = 48 ∷ 44 ∷ 49 ∷ 10 ∷ 114 ∷ 117 ∷ 108 ∷ 101 ∷ 44 ∷ 49 ∷ 44 ∷ 104 ∷ 101 ∷ 108 ∷ 100 ∷ 44 ∷ 49 ∷ 44 ∷ 111 ∷ 102 ∷ 44 ∷ 49 ∷ 10 ∷ 119 ∷ 97 ∷ 108 ∷ 107 ∷ 44 ∷ 110 ∷ 111 ∷ 110 ∷ 101 ∷ 10 ∷ [];
     }
     -- `M,1,0` `T` and an empty log: the sheet's refusal comes first
-    ∷ record {
-      rules = 77 ∷ 44 ∷ 49 ∷ 44 ∷ 48 ∷ 10 ∷ 84 ∷ 10 ∷ [];
-      steps = [];
-      page = 114 ∷ 101 ∷ 102 ∷ 117 ∷ 115 ∷ 101 ∷ 100 ∷ 44 ∷ 49 ∷ 48 ∷ 44 ∷ 49 ∷ 10 ∷ [];
-    }
+    ∷ record { rules = refusedRules; steps = []; page = refusedPage }
     -- `T` on `0` and `1,1`: the log's refusal
     ∷ record {
       rules = 84 ∷ 10 ∷ [];
       steps = 48 ∷ 10 ∷ 49 ∷ 44 ∷ 49 ∷ 10 ∷ [];
       page = 114 ∷ 101 ∷ 102 ∷ 117 ∷ 115 ∷ 101 ∷ 100 ∷ 44 ∷ 50 ∷ 54 ∷ 44 ∷ 50 ∷ 10 ∷ [];
     }
+    ∷ []
+
+-- a lent buffer, and what printing that page answers
+pub record Lending : Type 0 where
+  pub lent : List ℕ
+  pub answer : Printed
+
+-- every answer is the one that is to be given
+abbrev pub AllAnswer : List Lending → Type 0
+AllAnswer [] = Unit {0}
+AllAnswer (l ∷ ls) = (pageOutcome refusedRules [] (l .lent) ≡ l .answer) × AllAnswer ls
+
+-- a byte to spare, none to spare, a byte too few
+abbrev pub lendings : List Lending
+lendings =
+    record { lent = replicate 14 7; answer = record { number = 0; count = 13; buffer = refusedPage ++ (7 ∷ []) } }
+    ∷ record { lent = replicate 13 7; answer = record { number = 0; count = 13; buffer = refusedPage } }
+    ∷ record { lent = replicate 12 7; answer = record { number = 44; count = 0; buffer = replicate 12 7 } }
     ∷ []

@@ -1,4 +1,2 @@
-pub mod Lines
 pub mod Page
-pub mod Appending
 pub mod Examples

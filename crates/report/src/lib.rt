@@ -1,10 +1,8 @@
 // The printed page as bytes: the sheet is read, then the log, then the log is judged, then the rule's walk is shown.
-mod appending;
-mod lines;
-
 use aldlf::Entry;
 use aldlf::Node;
 use aldlf::Table;
+use appending::put_bytes;
 use joblog::LogAnswer;
 use judge::Judged;
 use lines::put_no_walk;
@@ -13,13 +11,12 @@ use lines::put_verdicts;
 use lines::put_walk;
 use walk::WalkAnswer;
 ghost use mathlib.Core.Path.{_≡_};
-ghost use Prim.Native.Nat.{min};
+ghost use Prim.Native.Nat.{_<_};
 ghost use lib.ListN.{length};
 ghost use Rattle.aldlf.specs.Constants.{entryLimit};
 ghost use Rattle.joblog.specs.Log.{readLog};
-ghost use Rattle.report.specs.Lines.{printedIn};
-ghost use Rattle.report.specs.Page.{ruleOf, refusedWalk, walkPage, tablePage, logPage, pageOf};
-ghost use Rattle.report.specs.Appending.{Appends};
+ghost use Rattle.report.specs.Page.{ruleOf, refusedWalk, walkPage, tablePage, logPage, pageOf, printedOf, placed, pageOutcome};
+ghost use Rattle.appending.specs.Appending.{Stored, Appends};
 
 // No page is longer, so that a buffer of so many bytes takes every page.
 pub const BYTES: usize = 40000;
@@ -27,10 +24,75 @@ pub const BYTES: usize = 40000;
 // The longest shortest walk has so many edges: it meets no state twice at an entry.
 const WALK: usize = aldlf::STATES * aldlf::ENTRIES - 1;
 
-// The text of the page in the first places of `out`, as many bytes of it as fit, and how many those are; the rest of `out` keeps
-// its content. Every sheet and every log has a page: a refusal is a page of one line.
-pub fn page(rules: &[u8], steps: &[u8], out: &mut [u8]) -> usize
-    ensures { λ r. ⌜ (r ≡ min (length (pageOf (now (rules .entry)) (now (steps .entry)))) (length (now (out .entry)))) × (now (out .exit) ≡ printedIn (pageOf (now (rules .entry)) (now (steps .entry))) (now (out .entry))) ⌝ }
+// A buffer for a page that is to fit in fewer bytes: a short log's page costs no pass over BYTES places.
+const SHORT: usize = 1024;
+
+// What printing a page answers. Number 0: the page was written, and `bytes` counts it. 44: the page is longer than the lent
+// buffer, which is left as it was lent; `bytes` is 0.
+pub struct PageAnswer {
+    pub number: u8,
+    pub bytes: usize,
+}
+
+// The page in the first places of `out`, the rest of `out` as lent; a page that is longer than `out` is refused. Every sheet and
+// every log has a page: a refused text has a page of one line.
+pub fn page(rules: &[u8], steps: &[u8], out: &mut [u8]) -> PageAnswer
+    ensures { λ r. ⌜ printedOf r (now (out .exit)) ≡ pageOutcome (now (rules .entry)) (now (steps .entry)) (now (out .entry)) ⌝ }
+{
+    if BYTES <= out.len() {
+        let n = put_page(out, rules, steps);
+        return PageAnswer {
+            number: 0,
+            bytes: n,
+        };
+    }
+    if out.len() < SHORT {
+        return short_page(rules, steps, out);
+    }
+    long_page(rules, steps, out)
+}
+
+// By way of a buffer of SHORT bytes: of a page that does not fit there, more bytes are known than `out` has.
+fn short_page(rules: &[u8], steps: &[u8], out: &mut [u8]) -> PageAnswer
+    requires { ⌜ length (now out) < 1024 ⌝ }
+    ensures { λ r. ⌜ printedOf r (now (out .exit)) ≡ pageOutcome (now (rules .entry)) (now (steps .entry)) (now (out .entry)) ⌝ }
+{
+    let mut buffer = [0u8; SHORT];
+    let n = put_page(&mut buffer, rules, steps);
+    hand_over(&buffer[..n], out)
+}
+
+// By way of a buffer that takes every page.
+fn long_page(rules: &[u8], steps: &[u8], out: &mut [u8]) -> PageAnswer
+    requires { ⌜ length (now out) < 40000 ⌝ }
+    ensures { λ r. ⌜ printedOf r (now (out .exit)) ≡ pageOutcome (now (rules .entry)) (now (steps .entry)) (now (out .entry)) ⌝ }
+{
+    let mut buffer = [0u8; BYTES];
+    let n = put_page(&mut buffer, rules, steps);
+    hand_over(&buffer[..n], out)
+}
+
+// A page copied to `out`, or refused.
+fn hand_over(page: &[u8], out: &mut [u8]) -> PageAnswer
+    ensures { λ r. ⌜ printedOf r (now (out .exit)) ≡ placed (now (page .entry)) (now (out .entry)) ⌝ }
+{
+    let n = page.len();
+    if n <= out.len() {
+        put_bytes(out, 0, page);
+        return PageAnswer {
+            number: 0,
+            bytes: n,
+        };
+    }
+    PageAnswer {
+        number: 44,
+        bytes: 0,
+    }
+}
+
+// As many bytes of the page as fit in the first places of `out`, and how many those are.
+fn put_page(out: &mut [u8], rules: &[u8], steps: &[u8]) -> usize
+    ensures { λ r. ⌜ Stored (pageOf (now (rules .entry)) (now (steps .entry))) (now (out .entry)) (now (out .exit)) r ⌝ }
 {
     let s = sheet::read_sheet(rules);
     if s.number != 0 {

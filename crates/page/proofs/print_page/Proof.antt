@@ -1,10 +1,17 @@
 -- print_page is safe: the page's count is within the buffer. Assumes nothing.
+use Prim.Native.Nat.{_≤_}
 use mathlib.Core.Path.{sym}
 use native.Mathlib.Omega.{arith}
+use lib.ListN.{length}
 use lib.Seq.{length-take-le}
 use borrow.Author.Needs.{needs}
+use Rattle.report.proofs.Fits.{page-bytes}
 use Rattle.page.proofs.print_page.Statement.{statement}
 use Rattle.page.proofs.print_page.Tie as tie
+
+-- the bytes of the page are within the buffer
+room : (c : tie.After-page) → c .page .result .bytes ≤ length (c .page .last .1 .1 .0)
+room c = let p = c .page in omega (arith, page-bytes _ _ _ _ (p .result) (p .ensures) .0, p .kept .1 .1 .0)
 
 slice-aggregate-page : tie.Need-slice-aggregate-page
 slice-aggregate-page c = search needs
@@ -13,12 +20,12 @@ page-requires : tie.Need-page-requires
 page-requires c κs = search needs
 
 array-share-prefix-out : tie.Need-array-share-prefix-out
-array-share-prefix-out c = search needs
+array-share-prefix-out c = room (c .before)
 
 slice-aggregate-write-all : tie.Need-slice-aggregate-write-all
 slice-aggregate-write-all c =
     let p = c .before .before .page in
-    sym (length-take-le (p .result) (p .last .1 .1 .0) (omega (arith, p .ensures .0, p .kept .1 .1 .0)))
+    sym (length-take-le (p .result .bytes) (p .last .1 .1 .0) (room (c .before .before)))
 
 write-all-requires : tie.Need-write-all-requires
 write-all-requires c κs = search needs

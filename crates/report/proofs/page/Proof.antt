@@ -1,55 +1,56 @@
--- page meets its contract: the sheet's refusal, or the page of its table and the log, from the first place on. Assumes nothing.
+-- page meets its contract: a buffer of 40,000 bytes takes every page; a smaller one is handed what fits. Assumes nothing.
 use borrow.Author.Needs.{needs}
 use denote.Ref.{now}
-use Rattle.report.specs.Page.{pageOf}
-use Rattle.report.proofs.Storing.{appends-same, appends-whole}
-use Rattle.report.proofs.Pages.{sheet-refused, sheet-read}
+use native.Mathlib.Omega.{arith}
+use Rattle.report.specs.Page.{pageOf, pageOutcome}
+use Rattle.report.proofs.Fits.{page-fits}
+use Rattle.report.proofs.Placed.{placed-stored}
 use Rattle.report.proofs.page.Statement.{statement}
 use Rattle.report.proofs.page.Tie as tie
 
-read-sheet-requires : tie.Need-read-sheet-requires
-read-sheet-requires c κs = search needs
-
-cast-put-refusal : tie.Need-cast-put-refusal
-cast-put-refusal c = search needs
-
-put-refusal-requires : tie.Need-put-refusal-requires
-put-refusal-requires c κs = search needs
+put-page-requires : tie.Need-put-page-requires
+put-page-requires c κs = search needs
 
 same-length : tie.Need-same-length
 same-length c = search needs
 
 returns : tie.Need-returns
+unfolding pageOutcome
 returns c =
-    let a = c .before .before .before .before .before .before .before .before .before .before .before .args in
-    let s = c .before .before .before .before .before .before .before .read-sheet in
-    let p = pageOf (now (a .rules)) (now (a .steps)) in
-    let e = appends-whole p (now (a .out)) (c .before .before .put-refusal .last .0) (c .before .before .put-refusal .result) (appends-same (sheet-refused (now (a .rules)) (now (a .steps)) (s .result) (s .ensures) (c .before .before .before .before .before .if1 .taken)) (c .before .before .put-refusal .ensures)) in
-    (e .place, e .text)
+    let a = c .before .before .before .before .before .before .before .before .args in
+    let p = c .before .before .put-page in
+    let rules = now (a .rules) in
+    let steps = now (a .steps) in
+    placed-stored (pageOf rules steps) (now (a .out)) (p .last .0) (p .result) (omega (arith, page-fits rules steps, c .before .before .before .before .if1 .taken)) (p .ensures)
 
-put-log-page-requires : tie.Need-put-log-page-requires
-put-log-page-requires c κs = search needs
+short-page-requires : tie.Need-short-page-requires
+short-page-requires c κs = search needs
 
 same-length-2 : tie.Need-same-length-2
 same-length-2 c = search needs
 
 returns-2 : tie.Need-returns-2
-returns-2 c =
-    let a = c .before .before .before .before .before .before .before .before .before .before .before .args in
-    let s = c .before .before .before .before .before .before .before .read-sheet in
-    let p = pageOf (now (a .rules)) (now (a .steps)) in
-    let e = appends-whole p (now (a .out)) (c .before .before .put-log-page .last .0) (c .before .before .put-log-page .result) (appends-same (sheet-read (now (a .rules)) (now (a .steps)) (s .result) (s .ensures) (c .before .before .before .before .before .if1 .left)) (c .before .before .put-log-page .ensures)) in
-    (e .place, e .text)
+returns-2 c = search needs
+
+long-page-requires : tie.Need-long-page-requires
+long-page-requires c κs = search needs
+
+same-length-3 : tie.Need-same-length-3
+same-length-3 c = search needs
+
+returns-3 : tie.Need-returns-3
+returns-3 c = search needs
 
 pub page-spec : {M : Type 1} → statement M
 page-spec =
     tie.close
     (tie.spec
-    read-sheet-requires
-    cast-put-refusal
-    put-refusal-requires
+    put-page-requires
     same-length
     returns
-    put-log-page-requires
+    short-page-requires
     same-length-2
-    returns-2)
+    returns-2
+    long-page-requires
+    same-length-3
+    returns-3)

@@ -8,7 +8,7 @@ use mathlib.Core.Path.{_≡_, ap, sym}
 use Rattle.aldlf.specs.Constants.{entryLimit}
 use Rattle.joblog.specs.Log.{entries, readLog}
 use Rattle.report.specs.Page.{logPage}
-use Rattle.report.proofs.Storing.{appends-same}
+use Rattle.appending.proofs.Storing.{appends-same}
 use Rattle.report.proofs.Answers.{log-entries, log-refused}
 use Rattle.report.proofs.put_log_page.Statement.{statement}
 use Rattle.report.proofs.put_log_page.Tie as tie

@@ -1,7 +1,7 @@
 -- put_refused_walk meets its contract, test by test. Assumes nothing.
 use borrow.Author.Needs.{needs}
 use mathlib.Core.Logic.{inl, inr}
-use Rattle.report.proofs.Storing.{appends-same}
+use Rattle.appending.proofs.Storing.{appends-same}
 use Rattle.report.proofs.Pages.{refused-none, refused-other}
 use Rattle.report.proofs.put_refused_walk.Statement.{statement}
 use Rattle.report.proofs.put_refused_walk.Tie as tie

@@ -9,9 +9,9 @@ use native.Mathlib.Omega.{arith}
 use Rattle.aldlf.specs.Constants.{entryLimit}
 use Rattle.aldlf.specs.Sheet.{sheetOf}
 use Rattle.sheet.specs.Given.{wellFormed}
-use Rattle.report.specs.Lines.{verdictLines}
+use Rattle.lines.specs.Lines.{verdictLines}
 use Rattle.report.specs.Page.{ruleOf, walkPage, tablePage}
-use Rattle.report.proofs.Storing.{appends-then, appends-same}
+use Rattle.appending.proofs.Storing.{appends-then, appends-same}
 use Rattle.report.proofs.Answers.{held-room, held-page, refused-page}
 use Rattle.report.proofs.put_table_page.Statement.{statement}
 use Rattle.report.proofs.put_table_page.Tie as tie

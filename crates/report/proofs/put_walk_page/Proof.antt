@@ -12,7 +12,7 @@ use Rattle.sheet.specs.Given.{wellFormed}
 use Rattle.walk.specs.Answer.{answerOf}
 use Rattle.walk.proofs.Told.{told-count, told-refused}
 use Rattle.report.specs.Page.{walkLimit, ruleOf, walkPage}
-use Rattle.report.proofs.Storing.{appends-same}
+use Rattle.appending.proofs.Storing.{appends-same}
 use Rattle.report.proofs.Answers.{shown-page, unshown-page}
 use Rattle.report.proofs.put_walk_page.Statement.{statement}
 use Rattle.report.proofs.put_walk_page.Tie as tie
