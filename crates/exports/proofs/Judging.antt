@@ -1,16 +1,15 @@
 -- The calls that judge: each answer is the definition's, and the count held is at most the log's entries.
-use Prim.Native.Nat.{ℕ, _-_, _<_}
-use mathlib.Core.Path.{_≡_, ap, sym, _∙_}
+use Prim.Native.Nat.{ℕ, _<_}
+use mathlib.Core.Path.{_≡_, refl, ap, sym, _∙_}
 use mathlib.Core.Bool.{Bool, true, false, cond}
 use mathlib.Core.List.{List}
 use native.Mathlib.Omega.{arith}
-use lib.Dec.{leb}
+use lib.Dec.{eqb, leb}
 use lib.ListN.{length}
 use borrow.Author.Tests.{eq-eqb, ne-eqb, leb-true}
 use Rattle.aldlf.specs.Constants.{nodeLimit, entryLimit}
 use Rattle.aldlf.specs.Sheet.{Sheet, sheetOf}
-use Rattle.aldlf.specs.Verdict.{verdict}
-use Rattle.aldlf.specs.Outcomes.{Whole, wholeOutcome, partOutcome, plainRow}
+use Rattle.aldlf.specs.Outcomes.{Whole, wholeOutcome, partOutcome, plainRow, noRow}
 use Rattle.aldlf.specs.declared.Table.{Table}
 use Rattle.aldlf.specs.declared.Row.{Row}
 use Rattle.aldlf.specs.declared.Way.{Way}
@@ -19,12 +18,12 @@ use Rattle.sheet.specs.Given.{wellFormed}
 use Rattle.judge.specs.declared.Judged.{Judged}
 use Rattle.judge.specs.declared.Judged.the-variants.{Held, Refused}
 use Rattle.judge.specs.declared.PartAnswer.{PartAnswer}
-use Rattle.judge.specs.Answers.{wholeOf, partOf, plainRowOf}
+use Rattle.judge.specs.Answers.{wholeOf, partOf, plainAnswerOf}
 use Rattle.report.proofs.Answers.{whole-yes, whole-held}
 use Rattle.report.proofs.Numbers.{held-le}
-use Rattle.exports.specs.Numbers.{tableOf, rowOf}
-use Rattle.exports.specs.Answers.{answerCode, accepted, refusal, outcome}
-use Rattle.exports.specs.Judging.{judged, judgeOutcome, plainInto, plainOutcome, wayOf, partEnds, partJudged, judgePartOutcome}
+use Rattle.crossing.specs.Numbers.{tableOf, rowOf}
+use Rattle.exports.specs.Answers.{answerCode, accepted, refusal, Outcome, outcome}
+use Rattle.exports.specs.Judging.{judged, judgeOutcome, plainInto, plainOutcome, isWay, wayOf, partEnds, partJudged, judgePartOutcome}
 use Rattle.exports.proofs.Sheets.{short-is, long-is}
 
 -- an accepted log is within the limit, and the rule holds at no more entries than there are
@@ -48,30 +47,43 @@ module _ (table log verdicts after : List ℕ) (t : Table) (r : Judged) (a : ℕ
   pub judge-refused : (q : ℕ) → r ≡ Refused q → a ≡ refusal q → outcome a after ≡ judgeOutcome table log verdicts
   judge-refused q g e = ap (λ (x : ℕ). outcome x after) e ∙ ap (λ (x : Judged). judged (wholeOf x after)) (sym g) ∙ judge-is
 
--- the plain row
+-- the plain row: the answer's row takes the lent row's place where it is accepted
+abbrev plainEnds : List ℕ → PartAnswer → Outcome
+plainEnds row p = outcome (answerCode (p .number) 0 0) (cond (eqb (p .number) 0) (p .row .bits) row)
+
 module _ (table row : List ℕ) where
   pub plain-short : (a : ℕ) → (length row ≡ nodeLimit → ⊥) → a ≡ refusal 35 → outcome a row ≡ plainOutcome table row
   unfolding plainOutcome
   plain-short a h e = short-is nodeLimit row (plainInto row (tableOf table)) a h e
 
-  module _ (t : Table) (a : ℕ) (h : length row ≡ nodeLimit) (is : t ≡ tableOf table) where
-    plain-is : plainOutcome table row ≡ plainInto row t
+  by-given : (t : Table) (given : Bool)
+      → cond given (outcome (accepted 0) (plainRow (sheetOf t) .bits)) (outcome (refusal 31) row)
+      ≡ plainEnds row (elim given [ true ↦ record { number = 0; row = plainRow (sheetOf t) } | false ↦ record { number = 31; row = noRow } ])
+  by-given t true = refl
+  by-given t false = refl
+
+  plain-ends : (t : Table) → plainInto row t ≡ plainEnds row (plainAnswerOf t)
+  unfolding plainAnswerOf
+  plain-ends t = by-given t (wellFormed t)
+
+  module _ (t : Table) (p : PartAnswer) (a : ℕ) (h : length row ≡ nodeLimit) (is : t ≡ tableOf table) (answers : p ≡ plainAnswerOf t)
+      (e : a ≡ answerCode (p .number) 0 0) where
+    plain-is : plainOutcome table row ≡ plainEnds row p
     unfolding plainOutcome
-    plain-is = long-is nodeLimit row (plainInto row (tableOf table)) h ∙ ap (plainInto row) (sym is)
+    plain-is = long-is nodeLimit row (plainInto row (tableOf table)) h ∙ ap (plainInto row) (sym is) ∙ plain-ends t ∙ ap (plainEnds row) (sym answers)
 
-    pub plain-refused : wellFormed t ≡ false → a ≡ refusal 31 → outcome a row ≡ plainOutcome table row
-    plain-refused g e = ap (λ (x : ℕ). outcome x row) e ∙ sym (plain-is ∙ rw g)
+    pub plain-refused : (p .number ≡ 0 → ⊥) → outcome a row ≡ plainOutcome table row
+    plain-refused n =
+        ap (λ (x : ℕ). outcome x row) e
+        ∙ ap (λ (b : Bool). outcome (answerCode (p .number) 0 0) (cond b (p .row .bits) row)) (sym (ne-eqb (p .number) 0 n))
+        ∙ sym plain-is
 
-    row-is : (r : Row) → wellFormed t ≡ true → r ≡ plainRowOf t → r ≡ plainRow (sheetOf t)
-    unfolding plainRowOf
-    row-is r g i = i ∙ rw (plainRowOf, g)
-
-    pub plain-given : (r : Row) (after : List ℕ) → wellFormed t ≡ true → r ≡ plainRowOf t → after ≡ r .bits → a ≡ accepted 0
-        → outcome a after ≡ plainOutcome table row
-    plain-given r after g i f e =
+    pub plain-given : (after : List ℕ) → p .number ≡ 0 → after ≡ p .row .bits → outcome a after ≡ plainOutcome table row
+    plain-given after n f =
         ap (λ (x : ℕ). outcome x after) e
-        ∙ ap (outcome (accepted 0)) (f ∙ ap (λ (x : Row). x .bits) (row-is r g i))
-        ∙ sym (plain-is ∙ rw g)
+        ∙ ap (λ (l : List ℕ). outcome (answerCode (p .number) 0 0) l) f
+        ∙ ap (λ (b : Bool). outcome (answerCode (p .number) 0 0) (cond b (p .row .bits) row)) (sym (eq-eqb (p .number) 0 n))
+        ∙ sym plain-is
 
 -- judging a part
 module _ (table : List ℕ) (way : ℕ) (row words verdicts : List ℕ) where
@@ -79,12 +91,16 @@ module _ (table : List ℕ) (way : ℕ) (row words verdicts : List ℕ) where
   unfolding judgePartOutcome
   part-short a h e = rw (ne-eqb (length row) nodeLimit h, e)
 
-  module _ (t : Table) (w : Way) (given : Row) (p : PartAnswer) (after : List ℕ) (a : ℕ) (h : length row ≡ nodeLimit)
+  pub part-no-way : (a : ℕ) → length row ≡ nodeLimit → isWay way ≡ false → a ≡ refusal 43 → partEnds a row verdicts ≡ judgePartOutcome table way row words verdicts
+  unfolding judgePartOutcome
+  part-no-way a h n e = rw (eq-eqb (length row) nodeLimit h, n, e)
+
+  module _ (t : Table) (w : Way) (given : Row) (p : PartAnswer) (after : List ℕ) (a : ℕ) (h : length row ≡ nodeLimit) (known : isWay way ≡ true)
       (is : t ≡ tableOf table) (goes : w ≡ wayOf way) (held : given ≡ rowOf row)
       (ends : partOf p after ≡ partOutcome (wellFormed t) w (sheetOf t) given words verdicts) (e : a ≡ answerCode (p .number) 0 0) where
     part-is : judgePartOutcome table way row words verdicts ≡ partJudged row (partOf p after)
     unfolding judgePartOutcome
-    part-is = rw (eq-eqb (length row) nodeLimit h, ← is, ← goes, ← held, ← ends)
+    part-is = rw (eq-eqb (length row) nodeLimit h, known, ← is, ← goes, ← held, ← ends)
 
     pub part-refused : (p .number ≡ 0 → ⊥) → partEnds a row after ≡ judgePartOutcome table way row words verdicts
     part-refused n =

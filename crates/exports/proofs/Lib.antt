@@ -1,11 +1,8 @@
-pub mod Listed
-pub mod Packed
-pub mod Unpacked
-pub mod Copied
-pub mod Crossing
-pub mod GivenTables
 pub mod Sheets
 pub mod Logs
 pub mod Judging
+pub mod Capped
 pub mod Walks
+pub mod Pages
 pub mod Apart
+pub mod Runs

@@ -7,7 +7,7 @@ use lib.ListN.{length}
 use borrow.Author.Tests.{eq-eqb, ne-eqb}
 use Rattle.sheet.specs.declared.SheetAnswer.{SheetAnswer}
 use Rattle.sheet.specs.Questions.{readSheet}
-use Rattle.exports.specs.Numbers.{tableSize, tableNumbers}
+use Rattle.crossing.specs.Numbers.{tableSize, tableNumbers}
 use Rattle.exports.specs.Answers.{answerCode, refusal, Outcome, outcome, ofLength, readInto, sheetOutcome}
 
 -- question 35

@@ -7,7 +7,7 @@ use lib.ListN.{length}
 use Rattle.joblog.specs.Log.{LogRead, entries, refused, readLog, storedIn}
 use Rattle.sheet.specs.declared.SheetAnswer.{SheetAnswer}
 use Rattle.sheet.specs.Questions.{readSheet}
-use Rattle.exports.specs.Numbers.{tableSize, tableNumbers}
+use Rattle.crossing.specs.Numbers.{tableSize, tableNumbers}
 
 -- the low 16 bits are the count, the next 16 the number of the question that got a no (0: accepted), the upper 32 the line
 unfoldable pub answerCode : (number line count : ℕ) → ℕ

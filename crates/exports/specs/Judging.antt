@@ -1,6 +1,6 @@
 -- What the calls that judge answer and leave in every lent slice, over the outcomes of judging the table that the numbers give.
 use Prim.Native.Nat.{ℕ}
-use mathlib.Core.Bool.{cond}
+use mathlib.Core.Bool.{Bool, cond, _||_}
 use mathlib.Core.List.{List}
 use lib.Dec.{eqb}
 use lib.ListN.{length}
@@ -11,7 +11,7 @@ use Rattle.aldlf.specs.declared.Table.{Table}
 use Rattle.aldlf.specs.declared.Way.{Way}
 use Rattle.aldlf.specs.declared.Way.the-variants.{Ahead, Back}
 use Rattle.sheet.specs.Given.{wellFormed}
-use Rattle.exports.specs.Numbers.{tableOf, rowOf}
+use Rattle.crossing.specs.Numbers.{tableOf, rowOf}
 use Rattle.exports.specs.Answers.{answerCode, accepted, refusal, Outcome, outcome, ofLength}
 
 -- judging a whole log: the count held
@@ -28,7 +28,11 @@ plainInto row t = cond (wellFormed t) (outcome (accepted 0) (plainRow (sheetOf t
 unfoldable pub plainOutcome : (table row : List ℕ) → Outcome
 plainOutcome table row = ofLength nodeLimit row (plainInto row (tableOf table))
 
--- 1 is ahead, any other number back
+-- question 43: a number that names a way, 1 ahead and 2 back
+abbrev pub isWay : ℕ → Bool
+isWay n = eqb n 1 || eqb n 2
+
+-- the way that it names
 abbrev pub wayOf : ℕ → Way
 wayOf n = cond (eqb n 1) Ahead Back
 
@@ -45,9 +49,12 @@ partEnds r row verdicts = record { answer = r; row = row; verdicts = verdicts }
 abbrev pub partJudged : List ℕ → Part → PartOutcome
 partJudged row p = partEnds (answerCode (p .number) 0 0) (cond (eqb (p .number) 0) (p .row .bits) row) (p .buffer)
 
+-- judging a part in numbers: questions 35 and 43, then those of the part
 unfoldable pub judgePartOutcome : List ℕ → ℕ → (row words verdicts : List ℕ) → PartOutcome
 judgePartOutcome table way row words verdicts =
     let t = tableOf table in
     cond (eqb (length row) nodeLimit)
+    (cond (isWay way)
     (partJudged row (partOutcome (wellFormed t) (wayOf way) (sheetOf t) (rowOf row) words verdicts))
+    (partEnds (refusal 43) row verdicts))
     (partEnds (refusal 35) row verdicts)

@@ -1,5 +1,4 @@
-pub mod Numbers
 pub mod Answers
 pub mod Judging
 pub mod Showing
-pub mod Steps
+pub mod Runs

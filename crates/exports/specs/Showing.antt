@@ -1,14 +1,12 @@
--- What the calls that show a walk and make a page answer and leave in the lent slice.
-use Prim.Native.Nat.{ℕ, min}
+-- What the calls that show a walk and print a page answer and leave in the lent slice.
+use Prim.Native.Nat.{ℕ}
 use mathlib.Core.List.{List}
-use lib.ListN.{length}
 use Rattle.aldlf.specs.Sheet.{sheetOf}
 use Rattle.aldlf.specs.Walks.{Shown, walkOutcome}
 use Rattle.sheet.specs.Given.{wellFormed}
-use Rattle.report.specs.Lines.{printedIn}
-use Rattle.report.specs.Page.{pageOf}
-use Rattle.exports.specs.Numbers.{tableOf}
-use Rattle.exports.specs.Answers.{answerCode, accepted, Outcome, outcome}
+use Rattle.report.specs.Page.{Printed, pageOutcome}
+use Rattle.crossing.specs.Numbers.{tableOf}
+use Rattle.exports.specs.Answers.{answerCode, Outcome, outcome}
 
 -- showing a walk: how many edges it has
 abbrev pub shown : Shown → Outcome
@@ -17,8 +15,9 @@ shown s = outcome (answerCode (s .number) 0 (s .count)) (s .buffer)
 unfoldable pub walkShown : (table log : List ℕ) → (node entry : ℕ) → List ℕ → Outcome
 walkShown table log node entry edges = let t = tableOf table in shown (walkOutcome (wellFormed t) (sheetOf t) log node entry edges)
 
--- making a page: how many of its bytes the slice takes
-unfoldable pub pageOutcome : (rules steps page : List ℕ) → Outcome
-pageOutcome rules steps page =
-    let text = pageOf rules steps in
-    outcome (accepted (min (length text) (length page))) (printedIn text page)
+-- printing a page: how many bytes it has
+abbrev pub printed : Printed → Outcome
+printed p = outcome (answerCode (p .number) 0 (p .count)) (p .buffer)
+
+unfoldable pub pagePrinted : (rules steps page : List ℕ) → Outcome
+pagePrinted rules steps page = printed (pageOutcome rules steps page)

@@ -1,29 +1,30 @@
 // The calls for C and Rust: numbers and slices. Each answers one number (specs/Answers.antt, `answerCode`); a table crosses as
-// 1,315 numbers and a row as 64 (specs/Numbers.antt).
+// 1,315 numbers and a row as 64 (crossing's specs/Numbers.antt).
 mod answer;
-mod pack;
-mod rows;
-mod unpack;
 
 use aldlf::Entry;
 use aldlf::Node;
 use aldlf::Way;
 use answer::code;
+use crossing::pack::TABLE;
+use crossing::pack::put_table;
+use crossing::rows::put_row;
+use crossing::rows::row_of;
+use crossing::unpack::table_of;
 use joblog::LogAnswer;
 use judge::Judged;
-use pack::TABLE;
-use pack::put_table;
-use rows::put_row;
-use rows::row_of;
-use unpack::table_of;
 use walk::WalkAnswer;
 ghost use mathlib.Core.Path.{_≡_};
+ghost use Prim.Native.Nat.{min};
 ghost use Rattle.exports.specs.Answers.{outcome, sheetOutcome, logOutcome};
-ghost use Rattle.exports.specs.Judging.{partEnds, judgeOutcome, plainOutcome, judgePartOutcome, wayOf};
-ghost use Rattle.exports.specs.Showing.{walkShown, pageOutcome};
+ghost use Rattle.exports.specs.Judging.{partEnds, judgeOutcome, plainOutcome, judgePartOutcome, isWay, wayOf};
+ghost use Rattle.exports.specs.Showing.{walkShown, pagePrinted};
 
 // The boundary's own question: a lent table or row has its fixed length.
 const LENGTH: u8 = 35;
+
+// The boundary's own question: the number of a way is 1 or 2.
+const WAY: u8 = 43;
 
 // Reads a sheet's text into a table. A refusal alters nothing.
 #[no_mangle]
@@ -33,13 +34,13 @@ pub extern "C" fn rozsvelen_read_sheet(text: &[u8], table: &mut [u16]) -> u64
     if table.len() != TABLE {
         return code(LENGTH, 0, 0);
     }
-    let a = sheet::read_sheet(text);
-    if a.number != 0 {
-        return code(a.number, a.line as usize, 0);
+    let s = sheet::read_sheet(text);
+    if s.number != 0 {
+        return code(s.number, s.line as usize, 0);
     }
-    let t = a.table;
+    let t = s.table;
     put_table(t, table);
-    code(a.number, a.line as usize, 0)
+    code(s.number, s.line as usize, 0)
 }
 
 // Reads a log's text into words and counts its entries. A refusal alters nothing.
@@ -76,15 +77,17 @@ pub extern "C" fn rozsvelen_plain_row(table: &[u16], row: &mut [u16]) -> u64
         return code(LENGTH, 0, 0);
     }
     let t = table_of(table);
-    if !sheet::is_given(t) {
-        return code(31, 0, 0);
+    let start = judge::plain_row(t);
+    if start.number != 0 {
+        return code(start.number, 0, 0);
     }
-    put_row(judge::plain_row(t), row);
-    code(0, 0, 0)
+    let plain = start.row;
+    put_row(plain, row);
+    code(start.number, 0, 0)
 }
 
 // Judges a part, given the row of the entry just outside it, and puts the row for the next part in its place. A refusal alters
-// nothing. way: 1 is ahead, any other number back.
+// nothing. way: 1 is ahead, 2 back.
 #[no_mangle]
 pub extern "C" fn rozsvelen_judge_part(
     table: &[u16],
@@ -98,16 +101,26 @@ pub extern "C" fn rozsvelen_judge_part(
     if row.len() != aldlf::NODES {
         return code(LENGTH, 0, 0);
     }
+    if !is_way(way) {
+        return code(WAY, 0, 0);
+    }
     let t = table_of(table);
     let w = way_of(way);
     let given = row_of(row);
-    let a = judge::judge_part(t, w, given, words, verdicts);
-    if a.number != 0 {
-        return code(a.number, 0, 0);
+    let p = judge::judge_part(t, w, given, words, verdicts);
+    if p.number != 0 {
+        return code(p.number, 0, 0);
     }
-    let next = a.row;
+    let next = p.row;
     put_row(next, row);
-    code(a.number, 0, 0)
+    code(p.number, 0, 0)
+}
+
+// Whether a number names a way.
+fn is_way(way: u8) -> bool
+    ensures { λ r. ⌜ r ≡ isWay way ⌝ }
+{
+    (way == 1) | (way == 2)
 }
 
 // The way that a number names.
@@ -120,31 +133,52 @@ fn way_of(way: u8) -> Way
     Way::Back
 }
 
-// The walk that shows a node at an entry, and the count of its edges. A refusal alters nothing.
+// The walk that shows a node at an entry, and the count of its edges. A refusal alters nothing. Both numbers are wider than a node's
+// and an entry's own, so that none is taken for another.
 #[no_mangle]
 pub extern "C" fn rozsvelen_walk(
     table: &[u16],
     log: &[u32],
-    node: u8,
-    entry: u16,
+    node: u32,
+    entry: u32,
     edges: &mut [u16],
 ) -> u64
     ensures { λ r. ⌜ outcome r (now (edges .exit)) ≡ walkShown (now (table .entry)) (now (log .entry)) node entry (now (edges .entry)) ⌝ }
 {
     let t = table_of(table);
-    let r = walk::walk(t, log, Node(node), Entry(entry), edges);
+    let r = walk::walk(t, log, node_of(node), entry_of(entry), edges);
     match r {
         WalkAnswer::Shown(n) => code(0, 0, n),
         WalkAnswer::Refused(q) => code(q, 0, 0),
     }
 }
 
-// The page of a sheet and a log in the first places of a slice, as many bytes as fit, and the count of these. It never refuses: a
-// refused sheet or log has a page of one line.
+// A node's number, or the largest that a node can have: no sheet has that one.
+fn node_of(node: u32) -> Node
+    ensures { λ r. ⌜ r .0 ≡ min node 255 ⌝ }
+{
+    if node > 255 {
+        return Node(255);
+    }
+    Node(node as u8)
+}
+
+// An entry's number, or the largest that an entry can have: no log has that one.
+fn entry_of(entry: u32) -> Entry
+    ensures { λ r. ⌜ r .0 ≡ min entry 65535 ⌝ }
+{
+    if entry > 65535 {
+        return Entry(65535);
+    }
+    Entry(entry as u16)
+}
+
+// The page of a sheet and a log in the first places of a slice, and the count of its bytes. A page that is longer than the slice
+// is refused, and alters nothing. A refused sheet or log has a page of one line.
 #[no_mangle]
 pub extern "C" fn rozsvelen_page(rules: &[u8], steps: &[u8], page: &mut [u8]) -> u64
-    ensures { λ r. ⌜ outcome r (now (page .exit)) ≡ pageOutcome (now (rules .entry)) (now (steps .entry)) (now (page .entry)) ⌝ }
+    ensures { λ r. ⌜ outcome r (now (page .exit)) ≡ pagePrinted (now (rules .entry)) (now (steps .entry)) (now (page .entry)) ⌝ }
 {
-    let bytes = report::page(rules, steps, page);
-    code(0, 0, bytes)
+    let printed = report::page(rules, steps, page);
+    code(printed.number, 0, printed.bytes)
 }

@@ -10,6 +10,12 @@ use Rattle.exports.proofs.rozsvelen_walk.Tie as tie
 table-of-requires : tie.Need-table-of-requires
 table-of-requires c κs = search needs
 
+node-of-requires : tie.Need-node-of-requires
+node-of-requires c κs = search needs
+
+entry-of-requires : tie.Need-entry-of-requires
+entry-of-requires c κs = search needs
+
 walk-requires : tie.Need-walk-requires
 walk-requires c κs = search needs
 
@@ -18,9 +24,11 @@ enum-known-r c = search needs
 
 code-requires : tie.Need-code-requires
 code-requires c κs =
-    let a = c .before .before .before .before .before .before .before .before .before .before .before .args in
+    let a = c .before .before .before .before .before .before .before .before .before .before .before .before .before .args in
+    let t = c .before .before .before .before .before .before .before .before .before .table-of in
     let w = c .before .before .before .before .before .walk in
-    let few = told-count (c .before .before .before .before .before .before .before .table-of .result) (now (a .log)) _ _ (now (a .edges)) _ (w .result) (w .ensures) (c .before .r .given .0 .0) (c .before .r .given .1) in
+    let s = c .before .r in
+    let few = told-count (t .result) (now (a .log)) _ _ (now (a .edges)) _ (w .result) (w .ensures) (s .given .0 .0) (s .given .1) in
     (omega arith, omega (arith, few .1))
 
 enum-known-r-2 : tie.Need-enum-known-r-2
@@ -34,26 +42,34 @@ same-length c = search needs
 
 returns : tie.Need-returns
 returns c =
-    let a = c .before .before .before .before .before .before .before .before .before .before .before .before .args in
-    let t = c .before .before .before .before .before .before .before .before .table-of in
+    let a = c .before .before .before .before .before .before .before .before .before .before .before .before .before .before .args in
+    let t = c .before .before .before .before .before .before .before .before .before .before .table-of in
+    let k = c .before .before .before .before .before .before .before .before .before .node-of in
+    let i = c .before .before .before .before .before .before .before .before .entry-of in
     let w = c .before .before .before .before .before .before .walk in
-    walk-shown (now (a .table)) (now (a .log)) (a .node) (a .entry) (now (a .edges)) _ (t .result) (w .result) _ (t .ensures) (w .ensures) (c .before .before .r .given .0 .0) (c .before .before .r .given .1) (c .code .ensures)
+    let s = c .before .before .r in
+    walk-shown (now (a .table)) (now (a .log)) (a .node) (a .entry) _ _ (now (a .edges)) _ (t .result) (w .result) _ (t .ensures) (k .ensures) (i .ensures) (w .ensures) (s .given .0 .0) (s .given .1) (c .code .ensures)
 
 same-length-2 : tie.Need-same-length-2
 same-length-2 c = search needs
 
 returns-2 : tie.Need-returns-2
 returns-2 c =
-    let a = c .before .before .before .before .before .before .before .before .before .before .before .before .args in
-    let t = c .before .before .before .before .before .before .before .before .table-of in
+    let a = c .before .before .before .before .before .before .before .before .before .before .before .before .before .before .args in
+    let t = c .before .before .before .before .before .before .before .before .before .before .table-of in
+    let k = c .before .before .before .before .before .before .before .before .before .node-of in
+    let i = c .before .before .before .before .before .before .before .before .entry-of in
     let w = c .before .before .before .before .before .before .walk in
-    walk-refused (now (a .table)) (now (a .log)) (a .node) (a .entry) (now (a .edges)) _ (t .result) (w .result) _ (t .ensures) (w .ensures) (c .before .before .r2 .given .0 .0) (c .before .before .r2 .given .1) (c .code2 .ensures)
+    let s = c .before .before .r2 in
+    walk-refused (now (a .table)) (now (a .log)) (a .node) (a .entry) _ _ (now (a .edges)) _ (t .result) (w .result) _ (t .ensures) (k .ensures) (i .ensures) (w .ensures) (s .given .0 .0) (s .given .1) (c .code2 .ensures)
 
 pub rozsvelen-walk-spec : {M : Type 1} → statement M
 rozsvelen-walk-spec =
     tie.close
     (tie.spec
     table-of-requires
+    node-of-requires
+    entry-of-requires
     walk-requires
     enum-known-r
     code-requires
