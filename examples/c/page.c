@@ -33,7 +33,7 @@ static void refused(uint64_t answer) {
 }
 
 /* The line of the rule's walk at entry 0. */
-static void print_walk(const uint16_t *table, const uint32_t *words, uint32_t entries, uint8_t rule) {
+static void print_walk(const uint16_t *table, const uint32_t *words, uint32_t entries, uint32_t rule) {
     static uint16_t edges[ROZSVELEN_WALK];
     uint64_t walk = rozsvelen_walk(table, ROZSVELEN_TABLE, words, entries, rule, 0, edges, ROZSVELEN_WALK);
     if (rozsvelen_number(walk) != 0) {
@@ -66,7 +66,7 @@ static void print_page(const uint8_t *rules, size_t rules_len, const uint8_t *st
         return;
     }
 
-    uint8_t rule = (uint8_t)(table[ROZSVELEN_TABLE - 3] - 1);
+    uint32_t rule = table[ROZSVELEN_TABLE - 3] - 1u;
     for (uint32_t i = 0; i < entries; i++) printf("%u,%u\n", i, (unsigned)(verdicts[i] >> rule & 1));
     printf("rule,%u,held,%u,of,%u\n", (unsigned)(verdicts[0] >> rule & 1), rozsvelen_count(held), entries);
     print_walk(table, words, entries, rule);

@@ -19,6 +19,7 @@ use compare::walks::compare_walk;
 use compare::Table;
 use generate::{largest_sheet, log, log_text, perhaps_damaged, perhaps_damaged_table, sheet, Looks, Random};
 use kinds::Kinds;
+use rozsvelen::PAGE;
 
 fn sheet_case(random: &mut Random, kinds: &mut Kinds) {
     let text = sheet(random, Looks::Both);
@@ -38,7 +39,8 @@ fn page_case(random: &mut Random, kinds: &mut Kinds) {
     let steps = log_text(&log(random, entries));
     let rules = if random.one_in(3) { perhaps_damaged(random, rules) } else { rules.into_bytes() };
     let steps = if random.one_in(3) { perhaps_damaged(random, steps) } else { steps.into_bytes() };
-    compare_page(kinds, &rules, &steps);
+    let room = if random.one_in(20) { random.below(PAGE + 2) } else { random.below(150) };
+    compare_page(kinds, &rules, &steps, room);
 }
 
 /// How many entries: mostly few, now and then one over the limit.
@@ -78,7 +80,11 @@ fn judge_and_show(random: &mut Random, kinds: &mut Kinds, table: &Table, entries
 /// Shows the walk of a random node at a random entry, in a buffer of random length.
 fn show(random: &mut Random, kinds: &mut Kinds, table: &Table, words: &[u32], judged: &Result<Judged, u8>) -> bool {
     let k = node_to_show(random, table);
-    let i = if random.one_in(12) { words.len() + random.below(100) } else { random.below(words.len().max(1)) };
+    let i = match random.below(12) {
+        0 => words.len() + random.below(100),
+        1 => (1 + random.below(65535)) << 16 | random.below(words.len().max(1)),
+        _ => random.below(words.len().max(1)),
+    };
     let room = match random.below(8) {
         0 | 1 => random.below(2),
         2 => 100 + random.below(8100),
@@ -92,8 +98,10 @@ fn node_to_show(random: &mut Random, table: &Table) -> usize {
     let numbers = table.ours.numbers();
     let nodes = numbers[sheets::TABLE - 3] as usize;
     let modal: Vec<usize> = (0..nodes.min(64)).filter(|k| [b'D', b'B'].map(u16::from).contains(&numbers[3 * k])).collect();
-    if random.one_in(12) {
+    if random.one_in(24) {
         nodes + random.below(100)
+    } else if random.one_in(24) {
+        (1 + random.below(0xff_ffff)) << 8 | random.below(nodes.clamp(1, 64))
     } else if modal.is_empty() || random.one_in(8) {
         random.below(nodes.max(1))
     } else {

@@ -3,7 +3,7 @@ use std::collections::BTreeMap;
 use std::fmt;
 
 /// Every call and the numbers by which it refuses; for the page, the numbers that stand on it.
-const REFUSALS: [(&str, &[u8]); 7] = [
+const REFUSALS: [(&str, &[u8]); 8] = [
     ("read_sheet", &[1, 2, 3, 4, 5, 6, 7, 8, 9, 10, 11]),
     ("read_log", &[21, 22, 23, 24, 25, 26, 27]),
     ("judge", &[31, 32, 33]),
@@ -11,9 +11,10 @@ const REFUSALS: [(&str, &[u8]); 7] = [
     ("judge_part", &[31, 34, 32, 33]),
     ("walk", &[31, 32, 36, 37, 38, 39, 40]),
     ("page", &[1, 2, 3, 4, 5, 6, 7, 8, 9, 10, 11, 21, 22, 23, 24, 25, 26]),
+    ("page_in", &[44]),
 ];
 
-const OTHERS: [&str; 42] = [
+const OTHERS: [&str; 46] = [
     "read_sheet: read",
     "read_sheet: cut short within a line",
     "read_sheet: a byte above 127",
@@ -53,9 +54,13 @@ const OTHERS: [&str; 42] = [
     "walk: more than 99 places lent",
     "walk: changed table that some sheet gives",
     "walk: places beyond the walk kept",
+    "walk: 36 of a number above 255",
+    "walk: 37 of a number above 65535",
     "page: with a walk",
     "page: without a walk",
     "page: of 512 entries and 8191 edges",
+    "page_in: as many bytes as the page has",
+    "page_in: bytes beyond the page kept",
 ];
 
 /// How often each kind of case was met.

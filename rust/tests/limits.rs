@@ -6,6 +6,7 @@ use crate::compare::walks::compare_walk;
 use crate::compare::Table;
 use crate::generate::log_text;
 use crate::kinds::Kinds;
+use rozsvelen::PAGE;
 
 /// An ahead edge that tests a D node.
 const MODAL_STEP: &str = "T\nM,1,0\nE,0,0,0,0\nD,0,0\nM,1,0\nE,0,1,1,0\nT\n";
@@ -13,11 +14,11 @@ const MODAL_STEP: &str = "T\nM,1,0\nE,0,0,0,0\nD,0,0\nM,1,0\nE,0,1,1,0\nT\n";
 pub fn texts(kinds: &mut Kinds) {
     for text in counted_texts() {
         compare_sheet(kinds, text.as_bytes());
-        compare_page(kinds, text.as_bytes(), b"-\n");
+        compare_page(kinds, text.as_bytes(), b"-\n", 12);
     }
     for text in ["", "T\nG,0\n", "T\nM,1,0\nG,0\nG,0\n", "T\nM,1,0\nE,0,0,0,0\n", "M,1,0\nT\n", MODAL_STEP] {
         compare_sheet(kinds, text.as_bytes());
-        compare_page(kinds, text.as_bytes(), b"-\n");
+        compare_page(kinds, text.as_bytes(), b"-\n", 12);
         for bytes in [49_152, 49_153, 49_154] {
             let mut long = text.to_string();
             while long.len() < bytes {
@@ -29,7 +30,7 @@ pub fn texts(kinds: &mut Kinds) {
     for entries in [511, 512, 513] {
         compare_log(kinds, "-\n".repeat(entries).as_bytes(), 600);
         compare_log(kinds, "0,31\n".repeat(entries).as_bytes(), 511);
-        compare_page(kinds, b"P,31\n", "0,31\n".repeat(entries).as_bytes());
+        compare_page(kinds, b"P,31\n", "0,31\n".repeat(entries).as_bytes(), PAGE - 1);
     }
 }
 
@@ -48,8 +49,8 @@ fn counted_texts() -> Vec<String> {
 fn compare_long(kinds: &mut Kinds, text: &[u8]) {
     compare_sheet(kinds, text);
     compare_log(kinds, text, 600);
-    compare_page(kinds, text, b"-\n");
-    compare_page(kinds, b"T\n", text);
+    compare_page(kinds, text, b"-\n", 12);
+    compare_page(kinds, b"T\n", text, 12);
 }
 
 /// A walk through every state at every entry: ahead to the last entry in one state, back to the first in the next. Edges of high numbers.
@@ -71,5 +72,7 @@ pub fn longest_walk(kinds: &mut Kinds) {
     for room in [8190, 8191, 8192] {
         compare_walk(kinds, &table, &words, &judged, [4, 0, room]);
     }
-    compare_page(kinds, text.as_bytes(), log_text(&words).as_bytes());
+    for room in [1024, 20_000, PAGE - 1, PAGE] {
+        compare_page(kinds, text.as_bytes(), log_text(&words).as_bytes(), room);
+    }
 }

@@ -8,14 +8,18 @@ use crate::kinds::Kinds;
 pub fn compare_walk(kinds: &mut Kinds, table: &Table, log: &[u32], judged: &Result<Judged, u8>, [k, i, room]: [usize; 3]) -> bool {
     let before: Vec<u16> = (0..room).map(|p| 0xff00 ^ p as u16).collect();
     let mut edges = before.clone();
-    let shown = rozsvelen::walk(&table.ours, log, k as u8, i as u16, &mut edges).map_err(no);
+    let shown = rozsvelen::walk(&table.ours, log, k as u32, i as u32, &mut edges).map_err(no);
     let theirs = walk_of(judged, k, i, room);
     let case = || format!("walk of node {k} at {i} in {room} places, {:?} log {log:?}", table.theirs);
     assert_eq!(shown, theirs.as_ref().map(Vec::len).map_err(|q| (*q, 0)), "{}", case());
     let walk = theirs.unwrap_or_default();
     assert_eq!(edges, [&walk, &before[walk.len()..]].concat(), "{}", case());
     match shown {
-        Err((q, _)) => kinds.refused("walk", q),
+        Err((q, _)) => {
+            kinds.refused("walk", q);
+            kinds.saw_if(q == 36 && k > 255, "walk: 36 of a number above 255");
+            kinds.saw_if(q == 37 && i > 65535, "walk: 37 of a number above 65535");
+        }
         Ok(n) => {
             kinds.saw_if(n == 0, "walk: of no edge");
             kinds.saw_if((1..=20).contains(&n), "walk: up to 20 edges");
