@@ -2,9 +2,18 @@
  *
  * Every function answers one number. Its low 16 bits are a count or length, the next 16 the number of the question that got a no
  * (0: accepted), and its upper 32 bits the line that the question is about (from 1; 0 for questions not about a line).
- * A refusal alters nothing that was lent. The questions and their numbers are those of the rule sheet's description; one is the
- * boundary's own and asked first: 35, a slice of fixed length (a table, a row) has another length.
- * A slice is a pointer and the number of its elements. No function keeps a pointer. */
+ * A refusal alters nothing that was lent. The questions and their numbers are those of the rule sheet's description, and three of the
+ * boundary's own:
+ *   35  a table or row to be written has its fixed length. Asked first.
+ *   43  a way is ROZSVELEN_AHEAD or ROZSVELEN_BACK. Asked after 35.
+ *   44  a page fits in the lent bytes.
+ * A table that is only read and has another length, or a number that no table has, stands for the table of zeros, which no sheet gives: 31.
+ *
+ * A slice is a pointer and the number of its elements. The pointer is aligned as its type asks, and may be NULL or anything else where the
+ * number is 0: then it is not followed. What is lent for writing overlaps nothing else that is lent to the same call; what is only read may
+ * overlap. No function keeps a pointer, keeps anything between calls, allocates, or calls anything but memcpy and memset: threads may call at
+ * the same time where none writes what another is lent.
+ * Stack: a call takes no more than is said at it, in kilobytes of 1024 bytes (measured, on x86-64, by tests/boundary.c). */
 #ifndef ROZSVELEN_H
 #define ROZSVELEN_H
 
@@ -28,33 +37,33 @@ static inline uint32_t rozsvelen_count(uint64_t answer) { return (uint32_t)(answ
 static inline uint32_t rozsvelen_number(uint64_t answer) { return (uint32_t)(answer >> 16 & 0xffff); }
 static inline uint32_t rozsvelen_line(uint64_t answer) { return (uint32_t)(answer >> 32); }
 
-/* Reads a rule sheet's text into a table of ROZSVELEN_TABLE numbers: questions 1 to 11. */
+/* Reads a rule sheet's text into a table of ROZSVELEN_TABLE numbers. Questions 35, then 1 to 11. Stack: 16 KB. */
 uint64_t rozsvelen_read_sheet(const uint8_t *text, size_t text_len, uint16_t *table, size_t table_len);
 
-/* Reads a job log's text into words, bit f for fact f, and counts the entries: questions 21 to 27.
- * The words take the first places, the rest keep their content. */
+/* Reads a job log's text into words, bit f for fact f, and counts the entries. The words take the first places, the rest keep their content.
+ * Questions 21 to 27. Stack: 1 KB. */
 uint64_t rozsvelen_read_log(const uint8_t *text, size_t text_len, uint32_t *words, size_t words_len);
 
 /* Judges a whole log: one word per entry, bit k for node k, in the first places of verdicts; counts the entries at which the rule,
- * the last node, holds. Questions 31, 32, 33. */
+ * the last node, holds. Questions 31, 32, 33. Stack: 16 KB. */
 uint64_t rozsvelen_judge(const uint16_t *table, size_t table_len, const uint32_t *log, size_t log_len, uint64_t *verdicts, size_t verdicts_len);
 
-/* Puts the plain row, which the first part of a run gets, into a row of ROZSVELEN_ROW numbers. Question 31. */
+/* Puts the plain row, which the first part of a run gets, into a row of ROZSVELEN_ROW numbers. Questions 35, 31. Stack: 8 KB. */
 uint64_t rozsvelen_plain_row(const uint16_t *table, size_t table_len, uint16_t *row, size_t row_len);
 
 /* Judges a part of a log, given the row of the entry just outside it, and puts the row for the next part in its place.
- * way: ROZSVELEN_AHEAD, parts come from the last to the first; any other number is ROZSVELEN_BACK, from the first to the last.
- * Questions 31, 34, 32, 33. */
+ * way: ROZSVELEN_AHEAD, parts come from the last to the first; ROZSVELEN_BACK, from the first to the last.
+ * Questions 35 (the row), 43, 31, 34, 32, 33. Stack: 16 KB. */
 uint64_t rozsvelen_judge_part(const uint16_t *table, size_t table_len, uint8_t way, uint16_t *row, size_t row_len,
                               const uint32_t *words, size_t words_len, uint64_t *verdicts, size_t verdicts_len);
 
 /* The edge numbers of the shortest walk, with the lowest edges, that shows node `node` at entry `entry`, in the first places of edges;
- * counts them. Questions 31, 32, 36 to 40. */
-uint64_t rozsvelen_walk(const uint16_t *table, size_t table_len, const uint32_t *log, size_t log_len, uint8_t node, uint16_t entry,
+ * counts them. Every number that is no node's or entry's is refused, by 36 or 37. Questions 31, 32, 36 to 40. Stack: 64 KB. */
+uint64_t rozsvelen_walk(const uint16_t *table, size_t table_len, const uint32_t *log, size_t log_len, uint32_t node, uint32_t entry,
                         uint16_t *edges, size_t edges_len);
 
 /* The page of a sheet and a log as text, in the first places of page; counts its bytes. A refusal of the sheet or the log is a page too:
- * its one line. A shorter buffer than ROZSVELEN_PAGE takes the first bytes of a longer page. It never refuses. */
+ * its one line. Question 44, which a buffer of ROZSVELEN_PAGE bytes always gets a yes from. Stack: 128 KB. */
 uint64_t rozsvelen_page(const uint8_t *rules, size_t rules_len, const uint8_t *steps, size_t steps_len, uint8_t *page, size_t page_len);
 
 #ifdef __cplusplus

@@ -97,13 +97,13 @@ fn parts(log: &[u32], times: usize) {
 fn walking(name: &str, text: &str, log: &[u32], node: usize, times: usize) {
     let sheet = Sheet::read(text.as_bytes()).unwrap();
     let [mut a, mut b] = [[0u16; 8191]; 2];
-    let proved_length = rozsvelen::walk(&sheet, log, node as u8, 0, &mut a).unwrap();
+    let proved_length = rozsvelen::walk(&sheet, log, node as u32, 0, &mut a).unwrap();
     assert_eq!(Some(proved_length), walks::walk(sheet.numbers(), log, node, 0, &mut b), "{name}");
     assert!(a == b, "{name}: the walks differ");
     let [proved, unproved] = time(
         times,
         [
-            &mut work(|| rozsvelen::walk(&sheet, black_box(log), node as u8, 0, &mut a)),
+            &mut work(|| rozsvelen::walk(&sheet, black_box(log), node as u32, 0, &mut a)),
             &mut work(|| walks::walk(sheet.numbers(), black_box(log), node, 0, &mut b)),
         ],
     );

@@ -2,9 +2,6 @@
 use crate::calls::*;
 use crate::{Refused, Way, ROW, TABLE};
 
-/// At most so many bytes on a page.
-const PAGE: usize = 40_000;
-
 /// An answer's number: a count or length in the low 16 bits, the refusal's number in the next 16, its line above.
 fn answer(code: u64) -> Result<usize, Refused> {
     let number = (code >> 16 & 0xffff) as u8;
@@ -55,13 +52,10 @@ pub fn judge_part(table: &[u16; TABLE], way: Way, row: &[u16; ROW], words: &[u32
     Ok(next)
 }
 
-pub fn walk(table: &[u16; TABLE], log: &[u32], node: u8, entry: u16, edges: &mut [u16]) -> Result<usize, Refused> {
+pub fn walk(table: &[u16; TABLE], log: &[u32], node: u32, entry: u32, edges: &mut [u16]) -> Result<usize, Refused> {
     answer(unsafe { rozsvelen_walk(table.as_ptr(), table.len(), log.as_ptr(), log.len(), node, entry, edges.as_mut_ptr(), edges.len()) })
 }
 
-pub fn page(rules: &[u8], steps: &[u8]) -> Vec<u8> {
-    let mut page = vec![0; PAGE];
-    let code = unsafe { rozsvelen_page(rules.as_ptr(), rules.len(), steps.as_ptr(), steps.len(), page.as_mut_ptr(), page.len()) };
-    page.truncate((code & 0xffff) as usize);
-    page
+pub fn page(rules: &[u8], steps: &[u8], page: &mut [u8]) -> Result<usize, Refused> {
+    answer(unsafe { rozsvelen_page(rules.as_ptr(), rules.len(), steps.as_ptr(), steps.len(), page.as_mut_ptr(), page.len()) })
 }

@@ -20,8 +20,8 @@ extern "C" {
         table_len: usize,
         log: *const u32,
         log_len: usize,
-        node: u8,
-        entry: u16,
+        node: u32,
+        entry: u32,
         edges: *mut u16,
         edges_len: usize,
     ) -> u64;

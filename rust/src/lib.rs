@@ -34,6 +34,8 @@ pub const ROW: usize = 64;
 pub const ENTRIES: usize = 512;
 /// A buffer of so many places takes every walk.
 pub const WALK: usize = 8191;
+/// A buffer of so many bytes takes every page.
+pub const PAGE: usize = 40_000;
 
 /// A refusal: the number of the first question that got a no, and the line it is about (from 1; 0 for questions not about a line).
 #[derive(Clone, Copy, Debug, PartialEq, Eq)]
@@ -200,8 +202,9 @@ pub fn judge_part(sheet: &Sheet, way: Way, row: &[u16; ROW], words: &[u32], verd
 /// assert_eq!(walk(&sheet, &[0, 0, 2], 2, 0, &mut edges), Ok(2));
 /// assert_eq!(edges, [0, 0, 9]);
 /// assert_eq!(walk(&sheet, &[0, 0, 2], 1, 0, &mut edges), Err(Refused { number: 38, line: 0 }));
+/// assert_eq!(walk(&sheet, &[0, 0, 2], 256 + 2, 0, &mut edges), Err(Refused { number: 36, line: 0 }));
 /// ```
-pub fn walk(sheet: &Sheet, log: &[u32], node: u8, entry: u16, edges: &mut [u16]) -> Result<usize, Refused> {
+pub fn walk(sheet: &Sheet, log: &[u32], node: u32, entry: u32, edges: &mut [u16]) -> Result<usize, Refused> {
     boundary::walk(&sheet.table, log, node, entry, edges)
 }
 
@@ -213,5 +216,22 @@ pub fn walk(sheet: &Sheet, log: &[u32], node: u8, entry: u16, edges: &mut [u16])
 /// assert_eq!(rozsvelen::page(b"", b"-\n"), b"refused,2,0\n");
 /// ```
 pub fn page(rules: &[u8], steps: &[u8]) -> Vec<u8> {
-    boundary::page(rules, steps)
+    let mut page = vec![0; PAGE];
+    let count = boundary::page(rules, steps, &mut page).expect("PAGE bytes take every page");
+    page.truncate(count);
+    page
+}
+
+/// The page of a sheet and a log in the first places of lent bytes, and how many they are. A page that does not fit is refused by 44, and
+/// alters nothing.
+///
+/// ```
+/// use rozsvelen::{page_in, Refused};
+/// let mut bytes = [b'#'; 14];
+/// assert_eq!(page_in(b"", b"", &mut bytes), Ok(12));
+/// assert_eq!(&bytes, b"refused,2,0\n##");
+/// assert_eq!(page_in(b"", b"", &mut bytes[..11]), Err(Refused { number: 44, line: 0 }));
+/// ```
+pub fn page_in(rules: &[u8], steps: &[u8], page: &mut [u8]) -> Result<usize, Refused> {
+    boundary::page(rules, steps, page)
 }

@@ -1,5 +1,5 @@
 //! What only a caller of the C functions can do: lend slices of other lengths, numbers that are no table's, and other numbers for the way.
-use rozsvelen::{Sheet, ENTRIES, ROW, TABLE};
+use rozsvelen::{Sheet, ENTRIES, PAGE, ROW, TABLE};
 
 #[path = "../src/calls.rs"]
 #[allow(dead_code)]
@@ -28,6 +28,14 @@ fn judge(table: &[u16], log: &[u32], verdicts: &mut [u64]) -> u64 {
 
 fn plain_row(table: &[u16], row: &mut [u16]) -> u64 {
     unsafe { rozsvelen_plain_row(table.as_ptr(), table.len(), row.as_mut_ptr(), row.len()) }
+}
+
+fn walk(table: &[u16], log: &[u32], node: u32, entry: u32, edges: &mut [u16]) -> u64 {
+    unsafe { rozsvelen_walk(table.as_ptr(), table.len(), log.as_ptr(), log.len(), node, entry, edges.as_mut_ptr(), edges.len()) }
+}
+
+fn page(rules: &[u8], steps: &[u8], page: &mut [u8]) -> u64 {
+    unsafe { rozsvelen_page(rules.as_ptr(), rules.len(), steps.as_ptr(), steps.len(), page.as_mut_ptr(), page.len()) }
 }
 
 fn judge_part(table: &[u16], way: u8, row: &mut [u16], words: &[u32], verdicts: &mut [u64]) -> u64 {
@@ -81,33 +89,66 @@ fn numbers_that_are_no_tables_are_31() {
     for numbers in [&table()[..TABLE - 1], &[], &large[..], &[0; TABLE + 1]] {
         let mut verdicts = [9; 2];
         let mut row = [7; ROW];
+        let mut edges = [5; 3];
         assert_eq!(judge(numbers, &[2], &mut verdicts), refusal(31, 0));
         assert_eq!(plain_row(numbers, &mut row), refusal(31, 0));
         assert_eq!(judge_part(numbers, 1, &mut row, &[2], &mut verdicts), refusal(31, 0));
-        assert_eq!((row, verdicts), ([7; ROW], [9; 2]));
+        assert_eq!(walk(numbers, &[2], 2, 0, &mut edges), refusal(31, 0));
+        assert_eq!((row, verdicts, edges), ([7; ROW], [9; 2], [5; 3]));
     }
 }
 
 #[test]
-fn way_1_is_ahead_and_every_other_back() {
+fn a_way_is_1_or_2() {
     for way in 0..=255 {
-        let mut row = [0; ROW];
-        let answer = judge_part(&table(), way, &mut row, &[2], &mut [0]);
-        assert_eq!(answer, if way == 1 { 0 } else { refusal(34, 0) }, "W looks only ahead, way {way}");
-        assert_eq!(row[2], (way == 1) as u16);
+        let mut row = [7; ROW];
+        let mut verdicts = [9];
+        let answer = judge_part(&table(), way, &mut row, &[2], &mut verdicts);
+        match way {
+            1 => assert_eq!((answer, row[2], verdicts), (0, 1, [0b111])),
+            2 => assert_eq!((answer, row, verdicts), (refusal(34, 0), [7; ROW], [9]), "W looks only ahead"),
+            _ => assert_eq!((answer, row, verdicts), (refusal(43, 0), [7; ROW], [9]), "way {way}"),
+        }
     }
 }
 
 #[test]
-fn a_page_is_cut_where_the_slice_ends() {
+fn the_way_is_asked_after_the_rows_length_and_before_the_table() {
+    assert_eq!(judge_part(&[], 3, &mut [7; ROW - 1], &[2], &mut []), refusal(35, 0));
+    assert_eq!(judge_part(&[], 3, &mut [7; ROW], &[2], &mut []), refusal(43, 0));
+    assert_eq!(judge_part(&[], 1, &mut [7; ROW], &[2], &mut []), refusal(31, 0));
+}
+
+#[test]
+fn no_number_is_taken_for_a_node_or_an_entry_of_fewer_bits() {
+    let log = [0, 2, 0];
+    let mut edges = [5; 3];
+    for node in [3, 63, 64, 255, 256, 256 + 2, 65536 + 2, u32::MAX - 253, u32::MAX] {
+        assert_eq!(walk(&table(), &log, node, 0, &mut edges), refusal(36, 0), "node {node}");
+    }
+    for entry in [3, 512, 65535, 65536, 65536 + 1, u32::MAX - 65535, u32::MAX] {
+        assert_eq!(walk(&table(), &log, 2, entry, &mut edges), refusal(37, 0), "entry {entry}");
+        assert_eq!(walk(&table(), &log, 256 + 2, entry, &mut edges), refusal(36, 0), "36 comes before 37, entry {entry}");
+    }
+    assert_eq!(edges, [5; 3]);
+    assert_eq!((walk(&table(), &log, 2, 0, &mut edges), edges), (1, [0, 5, 5]));
+}
+
+#[test]
+fn a_page_that_does_not_fit_is_44() {
     let steps = "1\n".repeat(ENTRIES);
-    let whole = rozsvelen::page(W, steps.as_bytes());
-    for length in [0, 1, whole.len() - 1, whole.len(), whole.len() + 1] {
-        let mut page = vec![b'#'; length];
-        let count = unsafe { rozsvelen_page(W.as_ptr(), W.len(), steps.as_ptr(), steps.len(), page.as_mut_ptr(), page.len()) };
-        let stored = length.min(whole.len());
-        assert_eq!(count, stored as u64);
-        assert_eq!(page[..stored], whole[..stored]);
-        assert!(page[stored..].iter().all(|b| *b == b'#'));
+    for (rules, steps) in [(W, steps.as_bytes()), (W, b"1\n"), (b"", b"")] {
+        let whole = rozsvelen::page(rules, steps);
+        for length in [0, 1, 1023, 1024, whole.len() - 1, whole.len(), whole.len() + 1, PAGE - 1, PAGE, PAGE + 1] {
+            let mut bytes = vec![b'#'; length];
+            let answer = page(rules, steps, &mut bytes);
+            if length < whole.len() {
+                assert_eq!((answer, bytes), (refusal(44, 0), vec![b'#'; length]), "{length} bytes for {}", whole.len());
+            } else {
+                assert_eq!(answer, whole.len() as u64, "{length} bytes for {}", whole.len());
+                assert_eq!(bytes[..whole.len()], whole);
+                assert!(bytes[whole.len()..].iter().all(|b| *b == b'#'));
+            }
+        }
     }
 }

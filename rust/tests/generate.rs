@@ -83,7 +83,7 @@ impl Writer<'_> {
         self.text += &match self.random.below(6) {
             0 => "T\n".to_string(),
             1 => "F\n".to_string(),
-            _ => format!("P,{}\n", self.random.below(4)),
+            _ => format!("P,{}\n", fact(self.random)),
         };
         self.plain.push(self.nodes);
         self.nodes += 1;
@@ -149,9 +149,18 @@ impl Writer<'_> {
     }
 }
 
-/// The words of a log of so many entries, over the facts that the sheets speak of.
+/// A fact for a sheet to speak of: often one of a few, so that nodes share it, else any.
+fn fact(random: &mut Random) -> usize {
+    if random.one_in(2) {
+        random.below(4)
+    } else {
+        random.below(32)
+    }
+}
+
+/// The words of a log of so many entries: each fact in one of four.
 pub fn log(random: &mut Random, entries: usize) -> Vec<u32> {
-    (0..entries).map(|_| (random.next() & random.next()) as u32 & 0xf).collect()
+    (0..entries).map(|_| (random.next() & random.next()) as u32).collect()
 }
 
 /// The text of a log.
@@ -165,40 +174,74 @@ pub fn log_text(words: &[u32]) -> String {
     text
 }
 
-/// A text with a few bytes or lines changed.
-pub fn damaged(random: &mut Random, text: &str) -> Vec<u8> {
-    let mut bytes = text.as_bytes().to_vec();
-    for _ in 0..1 + random.below(2) {
-        let mut lines: Vec<Vec<u8>> = bytes.split_inclusive(|b| *b == b'\n').map(<[u8]>::to_vec).collect();
-        let i = random.below(lines.len().max(1));
-        match random.below(7) {
-            0 if !lines.is_empty() => lines.insert(i, lines[i].clone()),
-            1 if lines.len() > 1 => {
-                lines.remove(i);
-            }
-            2 if !lines.is_empty() => {
-                let j = random.below(lines.len());
-                lines.swap(i, j);
-            }
-            3 if !bytes.is_empty() => {
-                let at = random.below(bytes.len());
-                bytes[at] = *random.pick(b"0123456789,\n-TFPNAODBMGE \r\0");
-                continue;
-            }
-            4 => {
-                let at = random.below(bytes.len() + 1);
-                bytes.insert(at, *random.pick(b"0123456789,\n-TFPNAODBMGE \r\0"));
-                continue;
-            }
-            5 if !bytes.is_empty() => {
-                bytes.remove(random.below(bytes.len()));
-                continue;
-            }
-            _ => bytes.truncate(bytes.len().saturating_sub(1)),
-        }
-        if random.below(7) < 6 {
-            bytes = lines.concat();
+/// A text with a few bytes or lines changed, or cut short; one in four is left as it is.
+pub fn perhaps_damaged(random: &mut Random, text: String) -> Vec<u8> {
+    let mut bytes = text.into_bytes();
+    if !random.one_in(4) {
+        for _ in 0..1 + random.below(2) {
+            bytes = damaged(random, bytes);
         }
     }
     bytes
+}
+
+fn damaged(random: &mut Random, mut bytes: Vec<u8>) -> Vec<u8> {
+    let at = random.below(bytes.len().max(1));
+    match random.below(7) {
+        0..=2 => return other_lines(random, &bytes),
+        3 if !bytes.is_empty() => bytes[at] = byte(random),
+        4 if !bytes.is_empty() => {
+            bytes.remove(at);
+        }
+        5 => bytes.insert(at, byte(random)),
+        _ => bytes.truncate(if random.one_in(2) { at } else { bytes.len().saturating_sub(1) }),
+    }
+    bytes
+}
+
+/// A byte of a text, or any.
+fn byte(random: &mut Random) -> u8 {
+    if random.one_in(4) {
+        random.next() as u8
+    } else {
+        *random.pick(b"0123456789,\n-TFPNAODBMGE \r\0")
+    }
+}
+
+/// A line twice, a line less, or two lines exchanged.
+fn other_lines(random: &mut Random, bytes: &[u8]) -> Vec<u8> {
+    let mut lines: Vec<&[u8]> = bytes.split_inclusive(|b| *b == b'\n').collect();
+    if lines.is_empty() {
+        return vec![];
+    }
+    let [i, j] = [0, 1].map(|_| random.below(lines.len()));
+    match random.below(3) {
+        0 => lines.insert(j, lines[i]),
+        1 => {
+            lines.remove(i);
+        }
+        _ => lines.swap(i, j),
+    }
+    lines.concat()
+}
+
+/// A table with up to two of its numbers changed.
+pub fn perhaps_damaged_table(random: &mut Random, mut numbers: [u16; 1315]) -> [u16; 1315] {
+    for _ in 0..random.below(3) {
+        let used = [3 * numbers[1312] as usize, 6 * numbers[1313] as usize, 4 * numbers[1314] as usize];
+        let at = match random.below(5) {
+            0 => random.below(used[0] + 3).min(191),
+            1 => 192 + random.below(used[1] + 6).min(95),
+            2 => 288 + random.below(used[2] + 4).min(1023),
+            3 => 1312 + random.below(3),
+            _ => random.below(numbers.len()),
+        };
+        numbers[at] = match random.below(4) {
+            0 => numbers[at].wrapping_add(1),
+            1 => numbers[at].wrapping_sub(1),
+            2 => random.below(70) as u16,
+            _ => random.next() as u16,
+        };
+    }
+    numbers
 }

@@ -1,30 +1,39 @@
-// Prints the page of the sheet `rules.txt` and the log `steps.txt` in the folder that it runs in.
+// Prints the page of the sheet `rules.txt` and the log `steps.txt` in the folder that it runs in, once both have been read to their ends.
+// A failure to read or to write is one line on standard error.
+mod reading;
+
 use libc::STDOUT_FILENO;
-ghost use Rattle.io.specs.Counts.{Counts};
+use reading::Content;
+use reading::read_file;
 
 // One byte more than a text may have: a longer file is then refused by its number.
 const ROOM: usize = text::BYTES + 1;
 
 fn main() {
     let mut rules = [0u8; ROOM];
-    let mut steps = [0u8; ROOM];
-    let mut out = [0u8; report::BYTES];
-    let n = read_file(b"rules.txt", &mut rules);
-    let m = read_file(b"steps.txt", &mut steps);
-    let p = report::page(&rules[..n], &steps[..m], &mut out);
-    let k = p.bytes;
-    io::write_all(STDOUT_FILENO, &out[..k]);
+    let read = read_file(b"rules.txt", &mut rules);
+    match read {
+        Content::Bytes(n) => read_steps(&rules[..n]),
+        Content::Failed => (),
+    }
 }
 
-// The bytes of a file at the start of `buffer`, as many as fit, and how many they are; of a missing file none.
-fn read_file(path: &[u8], buffer: &mut [u8]) -> usize
-    ensures { λ r. ⌜ Counts r (now (buffer .exit)) ⌝ }
-{
-    let file = os::open_read(path);
-    if file < 0 {
-        return 0;
+// Goes on with the log.
+fn read_steps(rules: &[u8]) {
+    let mut steps = [0u8; ROOM];
+    let read = read_file(b"steps.txt", &mut steps);
+    match read {
+        Content::Bytes(n) => print_page(rules, &steps[..n]),
+        Content::Failed => (),
     }
-    let n = io::read_full(file, buffer);
-    libc::close(file);
-    n
+}
+
+// Prints the page. No page is longer than `out`.
+fn print_page(rules: &[u8], steps: &[u8]) {
+    let mut out = [0u8; report::BYTES];
+    let p = report::page(rules, steps, &mut out);
+    let n = p.bytes;
+    if !io::write_all(STDOUT_FILENO, &out[..n]) {
+        os::fail(b"standard output");
+    }
 }

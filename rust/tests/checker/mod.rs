@@ -2,6 +2,7 @@
 //! configurations that are closed by repetition from each start, and walks are enumerated by their length.
 pub mod logs;
 pub mod meaning;
+pub mod pages;
 pub mod sheets;
 
 /// A refusal: number and line.

@@ -1,17 +1,13 @@
--- main is safe: the page's count is within the buffer. Assumes nothing.
-use Prim.Native.Nat.{_≤_}
-use mathlib.Core.Path.{sym}
-use native.Mathlib.Omega.{arith}
-use lib.ListN.{length}
-use lib.Seq.{length-take-le}
+-- main is safe: the part of the array that is lent on is what the file filled. Assumes nothing.
 use borrow.Author.Needs.{needs}
-use Rattle.report.proofs.Fits.{page-bytes}
+use Rattle.io.specs.Counts.{Counts}
+use Rattle.page.proofs.Counted.{counted}
 use Rattle.page.proofs.main.Statement.{statement}
 use Rattle.page.proofs.main.Tie as tie
 
--- the bytes of the page are within the buffer
-room : (c : tie.After-page) → c .page .result .bytes ≤ length (c .page .last .1 .1 .0)
-room c = let p = c .page in omega (arith, page-bytes _ _ _ _ (p .result) (p .ensures) .0, p .kept .1 .1 .0)
+-- the file's bytes are at the start of the array
+read : (c : tie.After-read) → Counts (c .read .given .0 .0) (c .before .before .before .read-file .last .1 .0)
+read c = counted (c .read .given .0 .0) (c .before .before .before .read-file .last .1 .0) (c .read .given .1) (c .before .before .before .read-file .ensures)
 
 slice-aggregate-read-file : tie.Need-slice-aggregate-read-file
 slice-aggregate-read-file c = search needs
@@ -22,46 +18,26 @@ slice-aggregate-read-file-2 c = search needs
 read-file-requires : tie.Need-read-file-requires
 read-file-requires c κs = search needs
 
-slice-aggregate-read-file-3 : tie.Need-slice-aggregate-read-file-3
-slice-aggregate-read-file-3 c = search needs
-
-slice-aggregate-read-file-4 : tie.Need-slice-aggregate-read-file-4
-slice-aggregate-read-file-4 c = search needs
-
-read-file-requires-2 : tie.Need-read-file-requires-2
-read-file-requires-2 c κs = search needs
+enum-known-read : tie.Need-enum-known-read
+enum-known-read c = search needs
 
 array-share-prefix-rules : tie.Need-array-share-prefix-rules
-array-share-prefix-rules c = search needs
+array-share-prefix-rules c = read (c .before) .0
 
-slice-aggregate-page : tie.Need-slice-aggregate-page
-slice-aggregate-page c = search needs
+slice-aggregate-read-steps : tie.Need-slice-aggregate-read-steps
+slice-aggregate-read-steps c = read (c .before .before) .1
 
-array-share-prefix-steps : tie.Need-array-share-prefix-steps
-array-share-prefix-steps c = search needs
+read-steps-requires : tie.Need-read-steps-requires
+read-steps-requires c κs = search needs
 
-slice-aggregate-page-2 : tie.Need-slice-aggregate-page-2
-slice-aggregate-page-2 c = search needs
-
-slice-aggregate-page-3 : tie.Need-slice-aggregate-page-3
-slice-aggregate-page-3 c = search needs
-
-page-requires : tie.Need-page-requires
-page-requires c κs = search needs
-
-array-share-prefix-out : tie.Need-array-share-prefix-out
-array-share-prefix-out c = room (c .before)
-
-slice-aggregate-write-all : tie.Need-slice-aggregate-write-all
-slice-aggregate-write-all c =
-    let p = c .before .before .page in
-    sym (length-take-le (p .result .bytes) (p .last .1 .1 .0) (room (c .before .before)))
-
-write-all-requires : tie.Need-write-all-requires
-write-all-requires c κs = search needs
+enum-told : tie.Need-enum-told
+enum-told c = search needs
 
 returns : tie.Need-returns
 returns c = search needs
+
+returns-2 : tie.Need-returns-2
+returns-2 c = search needs
 
 pub main-spec : {M : Type 1} → statement M
 main-spec =
@@ -70,16 +46,10 @@ main-spec =
     slice-aggregate-read-file
     slice-aggregate-read-file-2
     read-file-requires
-    slice-aggregate-read-file-3
-    slice-aggregate-read-file-4
-    read-file-requires-2
+    enum-known-read
     array-share-prefix-rules
-    slice-aggregate-page
-    array-share-prefix-steps
-    slice-aggregate-page-2
-    slice-aggregate-page-3
-    page-requires
-    array-share-prefix-out
-    slice-aggregate-write-all
-    write-all-requires
-    returns)
+    slice-aggregate-read-steps
+    read-steps-requires
+    enum-told
+    returns
+    returns-2)

@@ -1,0 +1,45 @@
+//! Every call on one case by the product and by the independent checker: the same answer, and the same content of every lent buffer.
+pub mod judging;
+pub mod pages;
+pub mod parts;
+pub mod texts;
+pub mod walks;
+
+use crate::checker::meaning::{plain, Judged};
+use crate::checker::{sheets, No};
+use rozsvelen::{Refused, Sheet};
+
+/// A table as it is lent, and the sheet that gives it, if one does.
+pub struct Table {
+    pub ours: Sheet,
+    pub theirs: Option<sheets::Sheet>,
+}
+
+impl Table {
+    /// That of a sheet that reads.
+    pub fn of(text: &str) -> Table {
+        Table { ours: Sheet::read(text.as_bytes()).unwrap(), theirs: Some(sheets::read(text.as_bytes()).unwrap()) }
+    }
+
+    pub fn from_numbers(numbers: [u16; sheets::TABLE]) -> Table {
+        Table { ours: Sheet::from_numbers(numbers), theirs: sheets::given(&numbers) }
+    }
+
+    pub fn sheet(&self) -> Result<&sheets::Sheet, u8> {
+        self.theirs.as_ref().ok_or(31)
+    }
+
+    /// A whole log judged by the independent checker: questions 31 and 32.
+    pub fn judged<'a>(&'a self, log: &'a [u32]) -> Result<Judged<'a>, u8> {
+        let sheet = self.sheet()?;
+        if (1..=512).contains(&log.len()) {
+            Ok(Judged::new(sheet, log, plain(sheet)))
+        } else {
+            Err(32)
+        }
+    }
+}
+
+fn no(r: Refused) -> No {
+    (r.number, r.line)
+}

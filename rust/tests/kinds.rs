@@ -1,0 +1,105 @@
+//! Which kinds of cases a comparison has to meet, and how often each was met.
+use std::collections::BTreeMap;
+use std::fmt;
+
+/// Every call and the numbers by which it refuses; for the page, the numbers that stand on it.
+const REFUSALS: [(&str, &[u8]); 8] = [
+    ("read_sheet", &[1, 2, 3, 4, 5, 6, 7, 8, 9, 10, 11]),
+    ("read_log", &[21, 22, 23, 24, 25, 26, 27]),
+    ("judge", &[31, 32, 33]),
+    ("plain_row", &[31]),
+    ("judge_part", &[31, 34, 32, 33]),
+    ("walk", &[31, 32, 36, 37, 38, 39, 40]),
+    ("page", &[1, 2, 3, 4, 5, 6, 7, 8, 9, 10, 11, 21, 22, 23, 24, 25, 26]),
+    ("page_in", &[44]),
+];
+
+const OTHERS: [&str; 46] = [
+    "read_sheet: read",
+    "read_sheet: cut short within a line",
+    "read_sheet: a byte above 127",
+    "read_log: read",
+    "read_log: cut short within a line",
+    "read_log: a byte above 127",
+    "read_log: places beyond the words kept",
+    "judge: sheet looks ahead",
+    "judge: sheet looks back",
+    "judge: sheet looks both ways",
+    "judge: sheet at every limit",
+    "judge: log of 512 entries",
+    "judge: changed table that some sheet gives",
+    "judge: places beyond the verdicts kept",
+    "judge: fact above 3 holds",
+    "judge: fact above 3 fails",
+    "judge: D holds",
+    "judge: D fails",
+    "judge: B holds",
+    "judge: B fails",
+    "plain_row: given",
+    "judge_part: ahead",
+    "judge_part: back",
+    "judge_part: no entry",
+    "judge_part: 512 entries",
+    "judge_part: a row that no part gave",
+    "judge_part: changed table that some sheet gives",
+    "judge_part: places beyond the verdicts kept",
+    "run: a refused call among them",
+    "run: equal to the whole log",
+    "run: more than 512 entries",
+    "walk: of no edge",
+    "walk: up to 20 edges",
+    "walk: over 20 edges",
+    "walk: over 99 edges",
+    "walk: of 8191 edges",
+    "walk: more than 99 places lent",
+    "walk: changed table that some sheet gives",
+    "walk: places beyond the walk kept",
+    "walk: 36 of a number above 255",
+    "walk: 37 of a number above 65535",
+    "page: with a walk",
+    "page: without a walk",
+    "page: of 512 entries and 8191 edges",
+    "page_in: as many bytes as the page has",
+    "page_in: bytes beyond the page kept",
+];
+
+/// How often each kind of case was met.
+#[derive(Default)]
+pub struct Kinds(BTreeMap<String, u64>);
+
+impl Kinds {
+    pub fn saw(&mut self, kind: &str) {
+        match self.0.get_mut(kind) {
+            Some(count) => *count += 1,
+            None => assert!(self.0.insert(kind.to_string(), 1).is_none()),
+        }
+    }
+
+    /// What is seen only where something holds.
+    pub fn saw_if(&mut self, holds: bool, kind: &str) {
+        if holds {
+            self.saw(kind);
+        }
+    }
+
+    pub fn refused(&mut self, call: &str, number: u8) {
+        self.saw(&refusal(call, number));
+    }
+
+    /// The wanted kinds that no case was of.
+    pub fn never_tried(&self) -> Vec<String> {
+        let refusals = REFUSALS.iter().flat_map(|(call, numbers)| numbers.iter().map(|n| refusal(call, *n)));
+        let all = refusals.chain(OTHERS.iter().map(|k| k.to_string()));
+        all.filter(|k| !self.0.contains_key(k)).collect()
+    }
+}
+
+fn refusal(call: &str, number: u8) -> String {
+    format!("{call}: {number}")
+}
+
+impl fmt::Display for Kinds {
+    fn fmt(&self, f: &mut fmt::Formatter<'_>) -> fmt::Result {
+        self.0.iter().try_for_each(|(kind, count)| writeln!(f, "{count:>9} {kind}"))
+    }
+}

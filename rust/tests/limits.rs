@@ -1,0 +1,78 @@
+//! Sheets, logs, pages and walks at the limits.
+use crate::compare::judging::compare_judging;
+use crate::compare::pages::compare_page;
+use crate::compare::texts::{compare_log, compare_sheet};
+use crate::compare::walks::compare_walk;
+use crate::compare::Table;
+use crate::generate::log_text;
+use crate::kinds::Kinds;
+use rozsvelen::PAGE;
+
+/// An ahead edge that tests a D node.
+const MODAL_STEP: &str = "T\nM,1,0\nE,0,0,0,0\nD,0,0\nM,1,0\nE,0,1,1,0\nT\n";
+
+pub fn texts(kinds: &mut Kinds) {
+    for text in counted_texts() {
+        compare_sheet(kinds, text.as_bytes());
+        compare_page(kinds, text.as_bytes(), b"-\n", 12);
+    }
+    for text in ["", "T\nG,0\n", "T\nM,1,0\nG,0\nG,0\n", "T\nM,1,0\nE,0,0,0,0\n", "M,1,0\nT\n", MODAL_STEP] {
+        compare_sheet(kinds, text.as_bytes());
+        compare_page(kinds, text.as_bytes(), b"-\n", 12);
+        for bytes in [49_152, 49_153, 49_154] {
+            let mut long = text.to_string();
+            while long.len() < bytes {
+                long += "T\n";
+            }
+            compare_long(kinds, &long.as_bytes()[..bytes]);
+        }
+    }
+    for entries in [511, 512, 513] {
+        compare_log(kinds, "-\n".repeat(entries).as_bytes(), 600);
+        compare_log(kinds, "0,31\n".repeat(entries).as_bytes(), 511);
+        compare_page(kinds, b"P,31\n", "0,31\n".repeat(entries).as_bytes(), PAGE - 1);
+    }
+}
+
+/// As many nodes, automata, edges and states as there may be, and one more.
+fn counted_texts() -> Vec<String> {
+    let mut all = vec!["T\n".repeat(64), "T\n".repeat(65), "T\n".repeat(64) + "M,1,0\n"];
+    all.extend([16, 17].map(|automata| "T\n".to_string() + &"M,1,0\nE,0,0,0,0\n".repeat(automata) + "T\n"));
+    all.extend([256, 257].map(|edges| "T\nM,1,0\n".to_string() + &"E,0,0,0,0\n".repeat(edges) + "T\n"));
+    all.extend([16, 17].map(|states| {
+        let edges: String = (0..states).map(|s| format!("E,{s},0,0,{s}\n")).collect();
+        format!("T\nM,{states},0\n{edges}T\n")
+    }));
+    all
+}
+
+fn compare_long(kinds: &mut Kinds, text: &[u8]) {
+    compare_sheet(kinds, text);
+    compare_log(kinds, text, 600);
+    compare_page(kinds, text, b"-\n", 12);
+    compare_page(kinds, b"T\n", text, 12);
+}
+
+/// A walk through every state at every entry: ahead to the last entry in one state, back to the first in the next. Edges of high numbers.
+pub fn longest_walk(kinds: &mut Kinds) {
+    let mut text = "T\nP,4\nP,31\nM,1,0\n".to_string() + &"E,0,0,0,0\n".repeat(225) + "M,16,0\nG,15\n";
+    for s in 0..16 {
+        text += &format!("E,{s},{},0,{s}\n", 1 + s % 2);
+        if s < 15 {
+            text += &format!("E,{s},0,{},{}\n", 1 + s % 2, s + 1);
+        }
+    }
+    text += "P,30\nD,1,3\n";
+    let mut words = vec![0; 512];
+    words[511] = 1 << 4;
+    words[0] = 1 << 31 | 1 << 30;
+    let table = Table::of(&text);
+    let judged = table.judged(&words);
+    compare_judging(kinds, &table, &words, &judged, 512);
+    for room in [8190, 8191, 8192] {
+        compare_walk(kinds, &table, &words, &judged, [4, 0, room]);
+    }
+    for room in [1024, 20_000, PAGE - 1, PAGE] {
+        compare_page(kinds, text.as_bytes(), log_text(&words).as_bytes(), room);
+    }
+}

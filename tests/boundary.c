@@ -1,0 +1,136 @@
+/* What only a caller in C can do or see: empty slices at NULL, and the stack that each call takes. Ends in 'N passed, M failed'. */
+#include "rozsvelen.h"
+
+#include <pthread.h>
+#include <stdio.h>
+#include <stdlib.h>
+#include <string.h>
+
+static int passed, failed;
+
+static void check(const char *name, int holds) {
+    if (holds) {
+        passed++;
+    } else {
+        failed++;
+        printf("boundary: %s\n", name);
+    }
+}
+
+/* The sheet of the longest walk, with a line of every letter: ahead to the last entry in one state, back to the first in the next. */
+enum { LAST = ROZSVELEN_ENTRIES - 1, SHOWN = 9 };
+static char rules[4096], steps[4096];
+static uint16_t table[ROZSVELEN_TABLE], only_ahead[ROZSVELEN_TABLE], only_back[ROZSVELEN_TABLE];
+static uint16_t row[ROZSVELEN_ROW], edges[ROZSVELEN_WALK];
+static uint32_t words[ROZSVELEN_ENTRIES];
+static uint64_t verdicts[ROZSVELEN_ENTRIES];
+static uint8_t page[ROZSVELEN_PAGE];
+static uint64_t answer;
+
+static void write_texts(void) {
+    char *end = rules + sprintf(rules, "T\nP,0\nP,1\nP,2\nF\nN,0\nA,0,1\nO,0,1\nM,16,0\nG,15\n");
+    for (int s = 0; s < 16; s++) {
+        end += sprintf(end, "E,%d,%d,0,%d\n", s, 1 + s % 2, s);
+        if (s < 15) end += sprintf(end, "E,%d,0,%d,%d\n", s, 1 + s % 2, s + 1);
+    }
+    sprintf(end, "B,0,3\nD,0,3\n");
+    end = steps + sprintf(steps, "1,2\n");
+    for (int i = 1; i < LAST; i++) end += sprintf(end, "-\n");
+    sprintf(end, "0\n");
+}
+
+static const uint8_t *text(const char *s) { return (const uint8_t *)s; }
+
+static void read_sheet(void) { answer = rozsvelen_read_sheet(text(rules), strlen(rules), table, ROZSVELEN_TABLE); }
+static void read_log(void) { answer = rozsvelen_read_log(text(steps), strlen(steps), words, ROZSVELEN_ENTRIES); }
+static void judge(void) { answer = rozsvelen_judge(table, ROZSVELEN_TABLE, words, ROZSVELEN_ENTRIES, verdicts, ROZSVELEN_ENTRIES); }
+static void plain_row(void) { answer = rozsvelen_plain_row(table, ROZSVELEN_TABLE, row, ROZSVELEN_ROW); }
+static void walk(void) { answer = rozsvelen_walk(table, ROZSVELEN_TABLE, words, ROZSVELEN_ENTRIES, SHOWN, 0, edges, ROZSVELEN_WALK); }
+static void judge_part(const uint16_t *sheet, uint8_t way) {
+    answer = rozsvelen_judge_part(sheet, ROZSVELEN_TABLE, way, row, ROZSVELEN_ROW, words, ROZSVELEN_ENTRIES, verdicts, ROZSVELEN_ENTRIES);
+}
+static void part_ahead(void) { judge_part(only_ahead, ROZSVELEN_AHEAD); }
+static void part_back(void) { judge_part(only_back, ROZSVELEN_BACK); }
+static void page_of(size_t bytes) { answer = rozsvelen_page(text(rules), strlen(rules), text(steps), strlen(steps), page, bytes); }
+static void whole_page(void) { page_of(ROZSVELEN_PAGE); }
+static void page_less_one(void) { page_of(ROZSVELEN_PAGE - 1); }
+static void short_page(void) { page_of(1023); }
+static void nothing(void) {}
+
+static void *on_thread(void *call) {
+    (*(void (**)(void))call)();
+    return NULL;
+}
+
+/* How many bytes of its stack a thread writes to that makes the call and nothing else. */
+static size_t stack_of(void (*call)(void)) {
+    enum { STACK = 1 << 20, PAINT = 0xa5 };
+    pthread_attr_t attributes;
+    pthread_t thread;
+    uint8_t *stack = aligned_alloc(4096, STACK);
+    memset(stack, PAINT, STACK);
+    pthread_attr_init(&attributes);
+    if (pthread_attr_setstack(&attributes, stack, STACK) != 0 || pthread_create(&thread, &attributes, on_thread, &call) != 0) exit(2);
+    pthread_join(thread, NULL);
+    size_t unused = 0;
+    while (stack[unused] == PAINT) unused++;
+    free(stack);
+    return STACK - unused;
+}
+
+/* The call answers as wanted, in the stack that the header says. */
+static void takes(const char *name, void (*call)(void), uint64_t wanted, size_t kilobytes) {
+    size_t others = stack_of(nothing);
+    size_t stack = stack_of(call) - others;
+    printf("%-24s %6zu bytes of stack\n", name, stack);
+    check(name, answer == wanted && stack <= kilobytes * 1024);
+}
+
+static uint64_t refused(uint64_t number) { return number << 16; }
+
+/* Every slice empty and at NULL, one at a time and all at once. */
+static void empty_slices(void) {
+    enum { T = ROZSVELEN_TABLE, R = ROZSVELEN_ROW, N = ROZSVELEN_ENTRIES };
+    const uint8_t *sheet = text("T\n"), *log = text("-\n");
+    check("read_sheet of no text", rozsvelen_read_sheet(NULL, 0, only_ahead, T) == refused(2));
+    check("read_sheet into no table", rozsvelen_read_sheet(sheet, 2, NULL, 0) == refused(35));
+    check("read_log of no text", rozsvelen_read_log(NULL, 0, words, N) == refused(22));
+    check("read_log into no words", rozsvelen_read_log(log, 2, NULL, 0) == refused(27));
+    check("judge with no table", rozsvelen_judge(NULL, 0, words, N, verdicts, N) == refused(31));
+    check("judge of no entry", rozsvelen_judge(table, T, NULL, 0, verdicts, N) == refused(32));
+    check("judge into no verdicts", rozsvelen_judge(table, T, words, N, NULL, 0) == refused(33));
+    check("plain_row with no table", rozsvelen_plain_row(NULL, 0, row, R) == refused(31));
+    check("plain_row into no row", rozsvelen_plain_row(table, T, NULL, 0) == refused(35));
+    check("judge_part with no table", rozsvelen_judge_part(NULL, 0, 1, row, R, words, N, verdicts, N) == refused(31));
+    check("judge_part with no row", rozsvelen_judge_part(only_ahead, T, 1, NULL, 0, words, N, verdicts, N) == refused(35));
+    check("judge_part into no verdicts", rozsvelen_judge_part(only_ahead, T, 1, row, R, words, N, NULL, 0) == refused(33));
+    check("judge_part of no entry", rozsvelen_judge_part(only_ahead, T, 1, row, R, NULL, 0, NULL, 0) == 0);
+    check("walk with no table", rozsvelen_walk(NULL, 0, words, N, SHOWN, 0, edges, ROZSVELEN_WALK) == refused(31));
+    check("walk of no entry", rozsvelen_walk(table, T, NULL, 0, SHOWN, 0, edges, ROZSVELEN_WALK) == refused(32));
+    check("walk into no places", rozsvelen_walk(table, T, words, N, SHOWN, 0, NULL, 0) == refused(40));
+    check("page of no texts", rozsvelen_page(NULL, 0, NULL, 0, page, sizeof page) == 12 && memcmp(page, "refused,2,0\n", 12) == 0);
+    check("page of no log", rozsvelen_page(sheet, 2, NULL, 0, page, sizeof page) == 13 && memcmp(page, "refused,22,0\n", 13) == 0);
+    check("page into no bytes", rozsvelen_page(NULL, 0, NULL, 0, NULL, 0) == refused(44));
+}
+
+int main(void) {
+    enum { BYTES = 10 * 4 + 90 * 5 + 412 * 6 + 23 + 10 + 5 * 511 * 2 + 11 * 511 * 3 + 5 * 2 + 10 * 3 }; /* of the page: entries, rule, walk */
+    static const char ahead[] = "T\nP,0\nM,1,0\nG,0\nE,0,1,0,0\nE,0,0,1,0\nD,0,1\nB,0,1\n";
+    static const char back[] = "T\nP,0\nM,1,0\nG,0\nE,0,2,0,0\nE,0,0,1,0\nD,0,1\nB,0,1\n";
+    write_texts();
+    takes("read_sheet", read_sheet, 0, 16);
+    takes("read_log", read_log, ROZSVELEN_ENTRIES, 1);
+    takes("judge", judge, ROZSVELEN_ENTRIES, 16);
+    takes("plain_row", plain_row, 0, 8);
+    rozsvelen_read_sheet(text(ahead), sizeof ahead - 1, only_ahead, ROZSVELEN_TABLE);
+    rozsvelen_read_sheet(text(back), sizeof back - 1, only_back, ROZSVELEN_TABLE);
+    takes("judge_part ahead", part_ahead, 0, 16);
+    takes("judge_part back", part_back, 0, 16);
+    takes("walk", walk, ROZSVELEN_WALK, 64);
+    takes("page", whole_page, BYTES, 128);
+    takes("page, a byte less", page_less_one, BYTES, 128);
+    takes("page in 1023 bytes", short_page, refused(44), 128);
+    empty_slices();
+    printf("%d passed, %d failed\n", passed, failed);
+    return failed != 0;
+}
