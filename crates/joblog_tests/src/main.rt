@@ -29,7 +29,6 @@ fn tried(line: &[u8]) {
 // Prints a case's name, what is answered and the words of the lent buffer after the call.
 fn answered(line: &[u8], words: &mut [u32]) {
     io::write_all(1, cases::field(line, 0));
-    io::write_all(1, b": ");
     said(read(line, words));
     shown(words, cases::number(cases::field(line, 3)));
 }
@@ -45,22 +44,23 @@ fn lent(line: &[u8]) -> usize
     n
 }
 
-// A case's log, read. A byte more than a log may have finds room.
+// What reading a case's log answers.
 fn read(line: &[u8], words: &mut [u32]) -> LogAnswer {
-    let mut log = [0u8; text::BYTES + 1];
+    let mut log = io::large_buffer();
     let n = cases::put_text(cases::field(line, 1), &mut log);
     joblog::read_log(&log[..n], words)
 }
 
-// An answer.
 fn said(a: LogAnswer) {
     match a {
-        LogAnswer::Read(n) => numbered(b"read,", n as u64),
-        LogAnswer::Refused(q, k) => {
-            numbered(b"refused,", q as u64);
-            numbered(b",", k as u64);
-        }
+        LogAnswer::Read(n) => numbered(b": read,", n as u64),
+        LogAnswer::Refused(q, k) => refused(q, k),
     }
+}
+
+fn refused(number: u8, line: usize) {
+    numbered(b": refused,", number as u64);
+    numbered(b",", line as u64);
 }
 
 fn numbered(before: &[u8], number: u64) {

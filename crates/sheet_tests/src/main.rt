@@ -31,9 +31,9 @@ fn tried(line: &[u8]) {
     io::write_all(1, b"\n");
 }
 
-// What reading a case's sheet answers. A byte more than a sheet may have finds room.
+// What reading a case's sheet answers.
 fn answer(line: &[u8]) -> SheetAnswer {
-    let mut text = [0u8; text::BYTES + 1];
+    let mut text = io::large_buffer();
     let n = cases::put_text(cases::field(line, 2), &mut text);
     sheet::read_sheet(&text[..n])
 }

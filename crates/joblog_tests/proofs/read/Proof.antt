@@ -5,6 +5,9 @@ use lib.Seq.{length-take-le}
 use Rattle.joblog_tests.proofs.read.Statement.{statement}
 use Rattle.joblog_tests.proofs.read.Tie as tie
 
+large-buffer-requires : tie.Need-large-buffer-requires
+large-buffer-requires c κs = search needs
+
 field-requires : tie.Need-field-requires
 field-requires c κs = search needs
 
@@ -35,6 +38,7 @@ pub read-spec : {M : Type 1} → statement M
 read-spec =
     tie.close
     (tie.spec
+    large-buffer-requires
     field-requires
     slice-aggregate-put-text
     put-text-requires

@@ -5,6 +5,9 @@ use lib.Seq.{length-take-le}
 use Rattle.sheet_tests.proofs.answer.Statement.{statement}
 use Rattle.sheet_tests.proofs.answer.Tie as tie
 
+large-buffer-requires : tie.Need-large-buffer-requires
+large-buffer-requires c κs = search needs
+
 field-requires : tie.Need-field-requires
 field-requires c κs = search needs
 
@@ -32,6 +35,7 @@ pub answer-spec : {M : Type 1} → statement M
 answer-spec =
     tie.close
     (tie.spec
+    large-buffer-requires
     field-requires
     slice-aggregate-put-text
     put-text-requires
