@@ -3,12 +3,13 @@ use borrow.Author.Needs.{needs}
 use borrow.Author.Tests.{not-true, not-false}
 use Prim.Native.Nat.{_≤_}
 use mathlib.Core.Bool.{true}
-use mathlib.Core.Path.{_≡_, sym, _∙_}
+use mathlib.Core.Path.{_≡_, ap, sym, _∙_}
 use lib.ListN.{length}
 use denote.Ref.{now}
 use Rattle.text.specs.Text.{byteLimit, lines, endsInLF}
-use Rattle.joblog.specs.Log.{entries, refused, readLines, readLog}
+use Rattle.joblog.specs.Log.{answerOf, entries, refused, readLines, readLog}
 use Rattle.joblog.specs.Steps.{wordsOf}
+use Rattle.joblog.specs.declared.LogAnswer.the-variants.{Read}
 use Rattle.joblog.proofs.Questions.{log-21, log-22, log-line, log-27, log-fits, log-read, log-count}
 use Rattle.joblog.proofs.read_log.Statement.{statement}
 use Rattle.joblog.proofs.read_log.Tie as tie
@@ -74,7 +75,7 @@ returns-5 c =
     let j = c .before .before .before .before .before .before .before .before .judge-lines in
     let z = c .before .before .before .before .before .before .if3 .left in
     let l : readLog text room ≡ entries (wordsOf (readLines 0 (lines text))) = log-read text room (short p) (ended p) (j .result) (j .ensures) z (c .before .before .before .before .if4 .left) in
-    (rw (l, log-count text room (short p) (ended p) (j .result) (j .ensures) z), rw l (c .before .before .store-words .ensures))
+    (ap Read (log-count text room (short p) (ended p) (j .result) (j .ensures) z) ∙ sym (ap answerOf l), rw l (c .before .before .store-words .ensures))
 
 pub read-log-spec : {M : Type 1} → statement M
 read-log-spec =
