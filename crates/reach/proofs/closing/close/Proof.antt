@@ -29,7 +29,8 @@ returns c = let S = c .before .before .before .before in
 returns-2 : tie.Need-returns-2 Inv-loop μ-loop
 returns-2 c = let S = c .before .before .before .before .before in
     let l = c .before .before .before .loop in
-    closed-same (now (S .args .edges)) (S .args .around) (S .args .start) (l .mask) _ (l .inv) (c .before .before .pass .ensures) (c .if2 .taken)
+    let p = c .before .before .pass .ensures in
+    closed-same (now (S .args .edges)) (S .args .around) (S .args .start) (l .mask) _ (l .inv) p (omega (arith, c .if2 .taken, p .closing .grown))
 
 loop-less : tie.Need-loop-less Inv-loop μ-loop
 loop-less c = let K = c .before .before .pass .ensures .closing in omega (arith, c .if2 .left, K .grown, K .fits)
