@@ -30,18 +30,22 @@ fn tried(line: &[u8]) {
 fn answered(line: &[u8], words: &mut [u32]) {
     io::write_all(1, cases::field(line, 0));
     said(read(line, words));
-    shown(words, cases::number(cases::field(line, 3)));
+    shown(words, number(line, 3));
 }
 
 // How many words a case lends.
 fn lent(line: &[u8]) -> usize
     ensures { λ r. ⌜ r ≤ 514 ⌝ }
 {
-    let n = cases::number(cases::field(line, 2));
+    let n = number(line, 2);
     if WORDS < n {
         return WORDS;
     }
     n
+}
+
+fn number(line: &[u8], k: usize) -> usize {
+    cases::number(cases::field(line, k))
 }
 
 // What reading a case's log answers.
@@ -73,13 +77,12 @@ fn shown(words: &[u32], from: usize) {
     io::write_all(1, b"; words");
     let mut i: usize = from;
     while i < words.len() {
-        numbered(b",", wide(words[i]));
+        word(words[i]);
         i += 1;
     }
     io::write_all(1, b"\n");
 }
 
-// A word as a number of 64 bits.
-fn wide(w: u32) -> u64 {
-    w as u64
+fn word(w: u32) {
+    numbered(b",", w as u64);
 }
