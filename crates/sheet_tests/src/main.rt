@@ -24,7 +24,7 @@ fn tried(line: &[u8]) {
     io::write_all(1, cases::field(line, 1));
     io::write_all(1, b":");
     if cases::letter(line) == b's' {
-        said(answer(line));
+        said(line);
     } else {
         tables::tried(line);
     }
@@ -39,7 +39,8 @@ fn answer(line: &[u8]) -> SheetAnswer {
 }
 
 // Prints the answer's number and line, and the counts of an accepted sheet.
-fn said(a: SheetAnswer) {
+fn said(line: &[u8]) {
+    let a = answer(line);
     numbered(a.number, a.line);
     if a.number == 0 {
         let t = a.table;

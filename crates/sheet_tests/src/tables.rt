@@ -1,4 +1,6 @@
-// Question 31 tried: tables that sheets give, and tables that none gives.
+// Question 31 tried: tables that sheets give, and tables that none gives. What a changed table's line has after its sheet:
+// node: its place, letter, a, b; edge: its place, from, direction, test, to; counts: a node as above, then how many nodes, automata, edges;
+// automaton: its place, states, start, accepting, first, count, before.
 use aldlf::Automaton;
 use aldlf::Edge;
 use aldlf::Node;
