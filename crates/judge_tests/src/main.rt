@@ -27,7 +27,6 @@ fn each(lines: &[u8]) {
 // A case's name and its outcome; the row in hand after it.
 fn case(line: &[u8], row: Row) -> Row {
     show::put(cases::field(line, 1));
-    show::put(b":");
     let next = call(line, row);
     show::put(b"\n");
     next

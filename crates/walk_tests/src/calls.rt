@@ -31,14 +31,15 @@ pub(crate) fn shorter() {
     let one = [7u16];
     let two = [1u16, 2];
     let pair = [3u16, 4];
-    io::write_all(1, b"the second is shorter:");
-    show::places(walk::shorter(&two, &one));
-    io::write_all(1, b"the first is shorter:");
-    show::places(walk::shorter(&one, &two));
-    io::write_all(1, b"equally long:");
-    show::places(walk::shorter(&two, &pair));
-    io::write_all(1, b"none is shorter:");
-    show::places(walk::shorter(&two, &one[..0]));
+    shorter_of(b"the second is shorter:", &two, &one);
+    shorter_of(b"the first is shorter:", &one, &two);
+    shorter_of(b"equally long:", &two, &pair);
+    shorter_of(b"none is shorter:", &two, &one[..0]);
+}
+
+fn shorter_of<'a>(name: &[u8], a: &'a [u16], b: &'a [u16]) {
+    io::write_all(1, name);
+    show::places(walk::shorter(a, b));
 }
 
 // How many words are lent: one for each entry, as far as there are places.

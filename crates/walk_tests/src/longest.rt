@@ -5,17 +5,22 @@
 use super::calls;
 use super::show;
 
-// Asks for it in the first places of 8,192; shows how many places hold the walk's edge, and how many are as lent.
+// Asks for it in the first places of 8,192. Fact 0 is at the first entry and fact 1 at the last.
 pub(crate) fn walk(line: &[u8]) {
     let mut log = [0u32; aldlf::ENTRIES];
     log[0] = 1;
     log[511] = 2;
     let mut edges = [999u16; 8192];
     calls::walk_in(line, &log, &mut edges);
+    counted(&edges);
+}
+
+// Shows how many places hold the walk's edge, and how many are as lent.
+fn counted(edges: &[u16]) {
     io::write_all(1, b", right");
-    show::number(right(&edges) as u64);
+    show::number(right(edges) as u64);
     io::write_all(1, b", as lent");
-    show::number(kept(&edges) as u64);
+    show::number(kept(edges) as u64);
     io::write_all(1, b"\n");
 }
 

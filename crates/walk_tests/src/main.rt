@@ -23,7 +23,6 @@ fn each(lines: &[u8]) {
 // A case's name and its outcome: a walk, or the longest one.
 fn case(line: &[u8]) {
     io::write_all(1, cases::field(line, 1));
-    io::write_all(1, b":");
     if cases::letter(line) == b'w' {
         calls::walk(line);
     } else {

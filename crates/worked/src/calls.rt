@@ -49,12 +49,16 @@ pub(crate) fn walk(line: &[u8]) {
     let mut words = [9u32; MOST];
     let mut edges = [9u16; 8];
     let n = entries(line, &mut words);
-    let node = Node((number(line, 4) % 256) as u8);
-    let entry = Entry((number(line, 5) % 65536) as u16);
-    match walk::walk(table(line), first(&words, n), node, entry, &mut edges) {
+    match walk_of(line, first(&words, n), &mut edges) {
         WalkAnswer::Shown(count) => show::walk(&edges, count),
         WalkAnswer::Refused(q) => show::refused(q),
     }
+}
+
+fn walk_of(line: &[u8], log: &[u32], edges: &mut [u16]) -> WalkAnswer {
+    let node = Node((number(line, 4) % 256) as u8);
+    let entry = Entry((number(line, 5) % 65536) as u16);
+    walk::walk(table(line), log, node, entry, edges)
 }
 
 // Judges a part that is given the plain row.

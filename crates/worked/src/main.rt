@@ -26,7 +26,6 @@ fn each(jobs: &[u8]) {
 // A job's name and its outcome; the row in hand after it.
 fn job(line: &[u8], row: Row) -> Row {
     io::write_all(1, cases::field(line, 1));
-    io::write_all(1, b":");
     let next = call(line, row);
     io::write_all(1, b"\n");
     next
