@@ -13,7 +13,8 @@ code-requires : tie.Need-code-requires
 code-requires c κs =
     let a = c .before .before .before .before .before .before .before .args in
     let p = c .before .before .page in
-    (omega arith, omega (arith, page-count (now (a .rules)) (now (a .steps)) (now (a .page)) _ (p .result) (p .ensures)))
+    let few = page-count (now (a .rules)) (now (a .steps)) (now (a .page)) _ (p .result) (p .ensures) in
+    (omega arith, omega arith)
 
 same-length : tie.Need-same-length
 same-length c = search needs
