@@ -19,6 +19,7 @@ pub(crate) fn whole(line: &[u8]) {
     whole_in(line, &log[..n], &mut verdicts[..m]);
 }
 
+// The same in the places lent.
 fn whole_in(line: &[u8], log: &[u32], verdicts: &mut [u64]) {
     show::judged(judge::judge(table(line), log, verdicts));
     show::words(verdicts, number(line, 5));
@@ -33,6 +34,7 @@ pub(crate) fn part(line: &[u8], way: Way, row: Row) -> Row {
     part_in(line, way, row, &words[..n], &mut verdicts[..m])
 }
 
+// The same in the places lent.
 fn part_in(line: &[u8], way: Way, row: Row, words: &[u32], verdicts: &mut [u64]) -> Row {
     let next = answered(
         judge::judge_part(table(line), way, row, words, verdicts),
@@ -85,7 +87,7 @@ fn words_of(line: &[u8], words: &mut [u32]) -> usize
     n
 }
 
-// The entries of the case's log, read into words. A log of 513 is refused at line 513, and its words are left as they were.
+// Reads the case's log into words, and says how many. One of 513 entries is refused at line 513: then so many words, as they were.
 fn entries(line: &[u8], words: &mut [u32]) -> usize {
     let mut bytes = io::buffer();
     let n = text_of(line, 3, &mut bytes);
@@ -106,7 +108,7 @@ fn room(line: &[u8], places: &[u64]) -> usize
     n
 }
 
-// The text in a field.
+// Puts the text of a field at the front of a buffer, and says how many bytes that are.
 fn text_of(line: &[u8], k: usize, bytes: &mut [u8]) -> usize
     ensures { λ r. ⌜ Counts r (now (bytes .exit)) ⌝ }
 {

@@ -37,6 +37,7 @@ pub(crate) fn shorter() {
     shorter_of(b"none is shorter:", &two, &one[..0]);
 }
 
+// Prints the shorter after its name.
 fn shorter_of<'a>(name: &[u8], a: &'a [u16], b: &'a [u16]) {
     io::write_all(1, name);
     show::places(walk::shorter(a, b));
@@ -53,7 +54,7 @@ fn words_of(line: &[u8], words: &mut [u32]) -> usize
     n
 }
 
-// The entries of the case's log, read into words. A log of 513 is refused at line 513, and its words are left as they were.
+// Reads the case's log into words, and says how many. One of 513 entries is refused at line 513: then so many words, as they were.
 fn entries(line: &[u8], words: &mut [u32]) -> usize {
     let mut bytes = io::buffer();
     let n = text_of(line, 3, &mut bytes);
@@ -81,7 +82,7 @@ fn table(line: &[u8]) -> Table {
     sheet::read_sheet(&bytes[..n]).table
 }
 
-// The text in a field.
+// Puts the text of a field at the front of a buffer, and says how many bytes that are.
 fn text_of(line: &[u8], k: usize, bytes: &mut [u8]) -> usize
     ensures { λ r. ⌜ Counts r (now (bytes .exit)) ⌝ }
 {

@@ -55,6 +55,7 @@ pub(crate) fn walk(line: &[u8]) {
     }
 }
 
+// The answer, with the walk in `edges`.
 fn walk_of(line: &[u8], log: &[u32], edges: &mut [u16]) -> WalkAnswer {
     let node = Node((number(line, 4) % 256) as u8);
     let entry = Entry((number(line, 5) % 65536) as u16);
@@ -84,7 +85,7 @@ pub(crate) fn part(line: &[u8], row: Row) -> Row {
     next
 }
 
-// The text in a field.
+// Puts the text of a field at the front of a buffer, and says how many bytes that are.
 fn text_of(line: &[u8], k: usize, bytes: &mut [u8]) -> usize
     ensures { λ r. ⌜ Counts r (now (bytes .exit)) ⌝ }
 {

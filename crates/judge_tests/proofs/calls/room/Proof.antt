@@ -1,7 +1,7 @@
 -- `room` meets its contract: the count is at most that of the places. Assumes nothing.
 use borrow.Author.Needs.{needs}
 use native.Mathlib.Omega.{arith}
-use Rattle.judge_tests.proofs.Counting.{counts}
+use Rattle.io.proofs.Counting.{counts}
 use Rattle.judge_tests.proofs.calls.room.Statement.{statement}
 use Rattle.judge_tests.proofs.calls.room.Tie as tie
 
