@@ -54,7 +54,7 @@ uint64_t rozsvelen_plain_row(const uint16_t *table, size_t table_len, uint16_t *
 /* Judges a part of a log, given the row of the entry just outside it, and puts the row for the next part in its place.
  * way: ROZSVELEN_AHEAD, parts come from the last to the first; ROZSVELEN_BACK, from the first to the last.
  * Questions 35 (the row), 43, 31, 34, 32, 33. Stack: 16 KB. */
-uint64_t rozsvelen_judge_part(const uint16_t *table, size_t table_len, uint8_t way, uint16_t *row, size_t row_len,
+uint64_t rozsvelen_judge_part(const uint16_t *table, size_t table_len, uint32_t way, uint16_t *row, size_t row_len,
                               const uint32_t *words, size_t words_len, uint64_t *verdicts, size_t verdicts_len);
 
 /* The edge numbers of the shortest walk, with the lowest edges, that shows node `node` at entry `entry`, in the first places of edges;

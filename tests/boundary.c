@@ -46,7 +46,7 @@ static void read_log(void) { answer = rozsvelen_read_log(text(steps), strlen(ste
 static void judge(void) { answer = rozsvelen_judge(table, ROZSVELEN_TABLE, words, ROZSVELEN_ENTRIES, verdicts, ROZSVELEN_ENTRIES); }
 static void plain_row(void) { answer = rozsvelen_plain_row(table, ROZSVELEN_TABLE, row, ROZSVELEN_ROW); }
 static void walk(void) { answer = rozsvelen_walk(table, ROZSVELEN_TABLE, words, ROZSVELEN_ENTRIES, SHOWN, 0, edges, ROZSVELEN_WALK); }
-static void judge_part(const uint16_t *sheet, uint8_t way) {
+static void judge_part(const uint16_t *sheet, uint32_t way) {
     answer = rozsvelen_judge_part(sheet, ROZSVELEN_TABLE, way, row, ROZSVELEN_ROW, words, ROZSVELEN_ENTRIES, verdicts, ROZSVELEN_ENTRIES);
 }
 static void part_ahead(void) { judge_part(only_ahead, ROZSVELEN_AHEAD); }

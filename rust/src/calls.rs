@@ -7,7 +7,7 @@ extern "C" {
     pub fn rozsvelen_judge_part(
         table: *const u16,
         table_len: usize,
-        way: u8,
+        way: u32,
         row: *mut u16,
         row_len: usize,
         words: *const u32,

@@ -38,7 +38,7 @@ fn page(rules: &[u8], steps: &[u8], page: &mut [u8]) -> u64 {
     unsafe { rozsvelen_page(rules.as_ptr(), rules.len(), steps.as_ptr(), steps.len(), page.as_mut_ptr(), page.len()) }
 }
 
-fn judge_part(table: &[u16], way: u8, row: &mut [u16], words: &[u32], verdicts: &mut [u64]) -> u64 {
+fn judge_part(table: &[u16], way: u32, row: &mut [u16], words: &[u32], verdicts: &mut [u64]) -> u64 {
     unsafe {
         rozsvelen_judge_part(
             table.as_ptr(),
@@ -100,7 +100,7 @@ fn numbers_that_are_no_tables_are_31() {
 
 #[test]
 fn a_way_is_1_or_2() {
-    for way in 0..=255 {
+    for way in (0..=255).chain([256, 257, 258, 65537, 65538, u32::MAX]) {
         let mut row = [7; ROW];
         let mut verdicts = [9];
         let answer = judge_part(&table(), way, &mut row, &[2], &mut verdicts);

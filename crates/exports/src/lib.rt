@@ -91,7 +91,7 @@ pub extern "C" fn rozsvelen_plain_row(table: &[u16], row: &mut [u16]) -> u64
 #[no_mangle]
 pub extern "C" fn rozsvelen_judge_part(
     table: &[u16],
-    way: u8,
+    way: u32,
     row: &mut [u16],
     words: &[u32],
     verdicts: &mut [u64],
@@ -117,14 +117,14 @@ pub extern "C" fn rozsvelen_judge_part(
 }
 
 // Whether a number names a way.
-fn is_way(way: u8) -> bool
+fn is_way(way: u32) -> bool
     ensures { λ r. ⌜ r ≡ isWay way ⌝ }
 {
     (way == 1) | (way == 2)
 }
 
 // The way that a number names.
-fn way_of(way: u8) -> Way
+fn way_of(way: u32) -> Way
     ensures { λ r. ⌜ r ≡ wayOf way ⌝ }
 {
     if way == 1 {
