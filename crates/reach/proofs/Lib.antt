@@ -1,5 +1,9 @@
 pub mod Masks
-pub mod Closure
+pub mod Bits
+pub mod Pulled
+pub mod Made
+pub mod Shared
+pub mod Settling
 pub mod Marking
 pub mod Turns
 pub mod Goals

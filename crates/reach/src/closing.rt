@@ -1,90 +1,63 @@
-// One entry: the states from which its edges lead to its own mask or to the masks beside it.
-use super::bit;
-use super::verdict;
-use super::with_bit;
-use aldlf::Node;
+// One entry: the states from which its edges lead to its own mask or to the masks beside it, by its columns of steps.
+use super::spreading::Visit;
+use super::steps::has;
+use super::steps::pull;
 ghost use mathlib.Core.Path.{_≡_};
-ghost use mathlib.Core.Bool.{false};
-ghost use Prim.Native.Nat.{_^_, _<_};
+ghost use mathlib.Core.List.{List};
+ghost use Prim.Native.Nat.{ℕ, _+_, _^_, _≤_, _<_};
+ghost use mathlib.Core.Bool.{not, _&&_, _||_};
+ghost use lib.Dec.{eqb};
 ghost use lib.ListN.{length};
 ghost use Rattle.aldlf.specs.Constants.{stateLimit};
-ghost use Rattle.reach.specs.Marks.{at, EdgeFits, EdgesFit};
-ghost use Rattle.reach.specs.Steps.{sideOf, taken, Passed, Closed, Stays};
+ghost use Rattle.aldlf.specs.Sheet.{bit};
+ghost use Rattle.reach.specs.Marks.{EdgesFit};
+ghost use Rattle.reach.specs.Columns.{Told, Columns};
+ghost use Rattle.reach.specs.Steps.{Closed, Beside, Stayed};
 
-// What an entry is closed from: its verdict word, and the masks of the entries ahead of it and behind it.
+// The masks of the entries ahead of an entry and behind it.
 pub(crate) struct Around {
-    pub(crate) word: u64,
-    pub(crate) ahead: u64,
-    pub(crate) behind: u64,
+    pub(crate) ahead: u16,
+    pub(crate) behind: u16,
 }
 
-// The mask with all states from which edges lead to it within the entry, or to the masks beside.
-// Where no edge stays at its entry (`stays` false) one pass is enough; else passes go on until one adds nothing.
-pub(crate) fn close(edges: &[u32], around: Around, stays: bool, start: u64) -> u64
-    requires { ⌜ EdgesFit (now edges) ⌝ }
-    requires { ⌜ (start < 2 ^ stateLimit) × Stays (now edges) stays (length (now edges)) ⌝ }
-    ensures { λ r. ⌜ Closed (now (edges .entry)) around start r ⌝ }
+// The mask with all states from which edges lead to it within the entry, or to the masks beside. The entry's columns start at `place`; only edges of
+// directions that are due are looked at, and those that stay where the mask grew.
+pub(crate) fn close(steps: &[u16], place: usize, around: Around, v: Visit, start: u16) -> u16
+    requires { ⌜ place + 48 ≤ length (now steps) ⌝ }
+    ensures { λ r. ⌜ (start ≤ r) × (r < 2 ^ stateLimit) ⌝ }
+    ensures { λ r. ⌜ ((E : List ℕ) (word : ℕ) → EdgesFit E → Told E (v .looks) (length E) → Columns E word (now (steps .entry)) place
+        → Closed E word (around .ahead) (around .behind) (v .due) start r) ⌝ }
 {
-    let mut mask = start;
-    loop {
-        let before = mask;
-        mask = pass(edges, around, before);
-        if !stays {
-            return mask;
-        }
-        if mask == before {
-            return mask;
-        }
-    }
+    let ahead = beside(has(v.due, 1), steps, place + 16, around.ahead);
+    let behind = beside(has(v.due, 2), steps, place + 32, around.behind);
+    within(steps, place, v, start, start | ahead | behind)
 }
 
-// One pass over the edges.
-fn pass(edges: &[u32], around: Around, start: u64) -> u64
-    requires { ⌜ EdgesFit (now edges) ⌝ }
-    requires { ⌜ start < 2 ^ stateLimit ⌝ }
-    ensures { λ r. ⌜ Passed (now (edges .entry)) around start r (length (now (edges .entry))) ⌝ }
+// The states with a step into the mask beside, if they are asked for.
+fn beside(on: bool, steps: &[u16], place: usize, mask: u16) -> u16
+    requires { ⌜ place + stateLimit ≤ length (now steps) ⌝ }
+    ensures { λ r. ⌜ Beside on (now (steps .entry)) place mask r ⌝ }
 {
-    let mut mask = start;
-    let mut i: usize = 0;
-    while i < edges.len() {
-        mask = take(edges[i], around, mask);
-        i += 1;
+    if on {
+        return pull(steps, place, mask);
     }
-    mask
+    0
 }
 
-// The mask with the state that edge p leaves, where p can be taken at the entry.
-fn take(p: u32, around: Around, mask: u64) -> u64
-    requires { ⌜ EdgeFits p ⌝ }
-    requires { ⌜ mask < 2 ^ stateLimit ⌝ }
-    ensures { λ r. ⌜ r ≡ taken p around mask ⌝ }
+// The mask `grown` from `start`, with all states from which edges that stay lead to it.
+fn within(steps: &[u16], place: usize, v: Visit, start: u16, grown: u16) -> u16
+    requires { ⌜ place + stateLimit ≤ length (now steps) ⌝ }
+    ensures { λ r. ⌜ Stayed v (now (steps .entry)) place start grown r ⌝ }
 {
-    let from = (p % 256) as u8;
-    if bit(mask, from) {
-        return mask;
+    if !asked(v, start, grown) {
+        return grown;
     }
-    let test = Node((p / 16777216) as u8);
-    if !verdict(around.word, test) {
-        return mask;
-    }
-    let to = (p / 256 % 256) as u8;
-    let dir = (p / 65536 % 256) as u8;
-    if bit(side(dir, mask, around), to) {
-        return with_bit(mask, from);
-    }
-    mask
+    grown | pull(steps, place, grown)
 }
 
-// The mask that an edge of direction dir finds at the entry it goes to.
-fn side(dir: u8, here: u64, around: Around) -> u64
-    ensures { λ r. ⌜ r ≡ sideOf dir here around ⌝ }
+// Whether the edges that stay are looked at: there are some, and they are due or the mask has grown.
+fn asked(v: Visit, start: u16, grown: u16) -> bool
+    ensures { λ r. ⌜ r ≡ bit (v .looks) 0 && (bit (v .due) 0 || not (eqb grown start)) ⌝ }
 {
-    if dir == 0 {
-        return here;
-    }
-    if dir == 1 {
-        around.ahead
-    } else {
-        around.behind
-    }
+    has(v.looks, 0) & (has(v.due, 0) | (grown != start))
 }

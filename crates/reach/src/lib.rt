@@ -1,38 +1,50 @@
 // Marks, for each entry of a log or a part, the states from which a walk of an automaton reaches a goal or an exit.
 // One code for whole logs (no exits) and for parts (exits by the row beside them), for D and for B, and for both directions.
 mod closing;
+pub mod filling;
 mod spreading;
+mod steps;
 
 use aldlf::Edge;
 use aldlf::Node;
-use spreading::spread;
+use spreading::rise;
+use spreading::sweep;
+use steps::has;
 ghost use mathlib.Core.Path.{_≡_};
-ghost use Prim.Native.Nat.{_+_, _^_, _<_};
+ghost use mathlib.Core.List.{List};
+ghost use Prim.Native.Nat.{ℕ, _+_, _^_, _≤_, _<_};
 ghost use lib.ListN.{length};
 ghost use Rattle.aldlf.specs.Sheet.{«bit» as bitOf};
 ghost use Rattle.aldlf.specs.Verdict.{«facing» as facingOf};
-ghost use Rattle.aldlf.specs.Constants.{nodeLimit};
+ghost use Rattle.aldlf.specs.Constants.{nodeLimit, entryLimit};
 ghost use Rattle.reach.specs.Marks.{pick, verdictIn, verdictAdded, packedOf, EdgesFit, Reaching};
+ghost use Rattle.reach.specs.Columns.{Told, Placed, Filled};
 ghost use Rattle.reach.specs.Steps.{Seeded};
 
 // What a walk is to reach: an accepting state (a bit of `accepting`) at an entry where `node` holds (`want`) or fails, or,
-// by an edge that leaves the log or the part, a state of `exits`.
+// by an edge that leaves the log or the part, a state of `exits`. `looks` has a bit for each group of directions that edges go.
 pub struct Goal {
     pub accepting: u16,
     pub node: Node,
     pub want: bool,
     pub exits: u16,
+    pub looks: u16,
 }
 
-// The configurations from which the goal is reached: for each entry a mask of states. `words` are the verdict words of the
-// nodes that edges test, `todo` is scratch of the same length. Internal: edges as `packed` makes them.
-pub fn mark(goal: Goal, edges: &[u32], words: &[u64], masks: &mut [u16], todo: &mut [u16])
-    requires { ⌜ EdgesFit (now edges) ⌝ }
-    requires { ⌜ (goal .node .0 < nodeLimit) × (length (now masks) ≡ length (now words)) × (length (now todo) ≡ length (now words)) ⌝ }
-    ensures { λ _. ⌜ Reaching (now (edges .entry)) goal (now (words .entry)) (now (masks .exit)) ⌝ }
+// The configurations from which the goal is reached: for each entry a mask of states, by the steps that `fill` makes of an
+// automaton's edges. Internal.
+pub fn mark(goal: Goal, words: &[u64], steps: &[u16], masks: &mut [u16])
+    requires { ⌜ Placed (length (now words)) (now steps) ⌝ }
+    requires { ⌜ (goal .node .0 < nodeLimit) × (length (now masks) ≡ length (now words)) × (length (now words) ≤ entryLimit) ⌝ }
+    ensures { λ _. ⌜ ((E : List ℕ) → EdgesFit E → Told E (goal .looks) (length E) → Filled E (now (words .entry)) (length (now (words .entry))) (now (steps .entry))
+        → Reaching E goal (now (words .entry)) (now (masks .exit))) ⌝ }
 {
-    seed(goal, words, masks, todo);
-    spread(goal.exits, edges, words, masks, todo);
+    seed(goal, words, masks);
+    sweep(goal.exits, goal.looks, steps, masks);
+    if !has(goal.looks, 2) {
+        return;
+    }
+    rise(goal.exits, goal.looks, steps, masks);
 }
 
 // An edge as one number, a byte for each field. Internal.
@@ -84,16 +96,15 @@ pub fn facing(want: bool, found: bool) -> bool
     if want { found } else { !found }
 }
 
-// The accepting states where the node is as wanted; every entry is to be visited.
-fn seed(goal: Goal, words: &[u64], masks: &mut [u16], todo: &mut [u16])
-    requires { ⌜ (goal .node .0 < nodeLimit) × (length (now masks) ≡ length (now words)) × (length (now todo) ≡ length (now words)) ⌝ }
-    ensures { λ _. ⌜ Seeded goal (now (words .entry)) (length (now (words .entry))) (now (masks .exit)) (now (todo .exit)) ⌝ }
+// The accepting states where the node is as wanted.
+fn seed(goal: Goal, words: &[u64], masks: &mut [u16])
+    requires { ⌜ (goal .node .0 < nodeLimit) × (length (now masks) ≡ length (now words)) ⌝ }
+    ensures { λ _. ⌜ Seeded goal (now (words .entry)) (length (now (words .entry))) (now (masks .exit)) ⌝ }
 {
     let mut i: usize = 0;
     while i < words.len() {
         let found = verdict(words[i], goal.node);
         masks[i] = goal_mask(goal.accepting, facing(goal.want, found));
-        todo[i] = 1;
         i += 1;
     }
 }

@@ -1,30 +1,83 @@
--- `mark` meets its contract: what spreads from the seeds is what is reached of the goal. Assumes nothing.
-use Rattle.reach.proofs.Goals.{reaching}
-use borrow.Author.Needs.{needs}
+-- `mark` meets its contract: what the sweep and the turns make of the seeds is what is reached of the goal. Assumes nothing.
+use Prim.Native.Nat.{ℕ}
+use Rattle.reach.proofs.Goals.{marking-start, reaching}
+use Rattle.reach.proofs.Turns.{swept-all}
+use Rattle.reach.specs.Columns.{Placed}
+use borrow.Author.Tests.{not-true}
 use denote.Ref.{now}
-use mathlib.Core.Path.{_∙_}
+use lib.ListN.{length}
+use mathlib.Core.Path.{sym, subst, _∙_}
 use native.Mathlib.Omega.{arith}
+use borrow.Author.Needs.{needs}
 use Rattle.reach.proofs.mark.Statement.{statement}
 use Rattle.reach.proofs.mark.Tie as tie
+use Rattle.reach.proofs.mark.Reads as reads
+use Rattle.reach.proofs.mark.Lts as lts
+use Rattle.reach.proofs.seed.Reads as seed-reads
+use Rattle.reach.proofs.spreading.rise.Reads as rise-reads
+use Rattle.reach.proofs.spreading.sweep.Reads as sweep-reads
+use Rattle.reach.proofs.steps.has.Reads as has-reads
 
+-- src/lib.rt:42:5
 seed-requires : tie.Need-seed-requires
 seed-requires c κs = search needs
 
-spread-requires : tie.Need-spread-requires
-spread-requires c κs = let S = c .before .before .before .before .before .before .before .before .before .before .before .before .before in
-    let r = c .before .before .before .before .before .before .seed in
-    (S .pre .0, (r .kept .1 .1 .0 ∙ S .pre .1 .1, r .kept .1 .1 .1 .0 ∙ S .pre .1 .2, λ i l. (omega (arith, c .before .before .before .before .slice-known3 .given i), r .ensures .visits i l)))
+-- src/lib.rt:43:5
+sweep-requires : tie.Need-sweep-requires
+sweep-requires c κs = let S = c .before .before .before .before .before .before .before .before in
+    subst (λ (n : ℕ). Placed n (now (S .args .steps))) (sym (c .before .before .before .seed .kept .1 .1 .0 ∙ S .pre .1 .1)) (S .pre .0)
 
+-- src/lib.rt:44:9
+has-requires : tie.Need-has-requires
+has-requires c κs = search needs
+
+-- src/lib.rt:45:9
 same-length : tie.Need-same-length
 same-length c = search needs
 
+-- src/lib.rt:45:9
+returns : tie.Need-returns
+returns c = let S = c .before .before .before .before .before .before .before .before .before .before .before .before .before in
+    let g = S .args .goal in
+    let W = now (S .args .words) in
+    let r = c .before .before .before .before .before .before .before .before .seed in
+    let seeds = r .last .1 .1 .0 in
+    λ E f told F. reaching E f g W seeds _ (r .ensures)
+    (swept-all (g .exits) (g .looks) (now (S .args .steps)) _ (sym (c .before .has .ensures) ∙ not-true _ (c .if1 .taken)) E W seeds f told F
+    (c .before .before .before .before .sweep .ensures .1 E W seeds f told F
+    (marking-start E (g .exits) W seeds (r .kept .1 .1 .0 ∙ S .pre .1 .1) (λ i l. omega (arith, c .before .before .before .before .before .before .slice-known2 .given i)))))
+
+-- src/lib.rt:47:5
+rise-requires : tie.Need-rise-requires
+rise-requires c κs = let S = c .before .before .before .before .before .before .before .before .before .before .before .before .before .before in
+    let same = c .before .before .before .before .before .sweep .ensures .0 ∙ c .before .before .before .before .before .before .before .before .before .seed .kept .1 .1 .0 ∙ S .pre .1 .1 in
+    (subst (λ (n : ℕ). Placed n (now (S .args .steps))) (sym same) (S .pre .0), omega (arith, same, S .pre .1 .2))
+
+-- src/lib.rt:36:1
 same-length-2 : tie.Need-same-length-2
 same-length-2 c = search needs
 
-returns : tie.Need-returns
-returns c = let S = c .before .before .before .before .before .before .before .before .before .before .before .before .before .before .before .before .before .before in
-    let r = c .before .before .before .before .before .before .before .before .before .before .before .seed in
-    reaching (now (S .args .edges)) (S .args .goal) (now (S .args .words)) (r .last .1 .1 .0) (r .last .1 .1 .1 .0) _ (r .ensures) (c .before .before .before .before .spread .ensures)
+-- src/lib.rt:36:1
+returns-2 : tie.Need-returns-2
+returns-2 c = let S = c .before .before .before .before .before .before .before .before .before .before .before .before .before .before .before .before .before in
+    let g = S .args .goal in
+    let W = now (S .args .words) in
+    let r = c .before .before .before .before .before .before .before .before .before .before .before .before .seed in
+    let seeds = r .last .1 .1 .0 in
+    λ E f told F. reaching E f g W seeds _ (r .ensures)
+    (c .before .before .rise .ensures .1 E W seeds f told F
+    (c .before .before .before .before .before .before .before .before .sweep .ensures .1 E W seeds f told F
+    (marking-start E (g .exits) W seeds (r .kept .1 .1 .0 ∙ S .pre .1 .1) (λ i l. omega (arith, c .before .before .before .before .before .before .before .before .before .before .slice-known2 .given i)))))
 
 pub mark-spec : {M : Type 1} → statement M
-mark-spec = tie.close (tie.spec seed-requires spread-requires same-length same-length-2 returns)
+mark-spec =
+    tie.close
+    (tie.spec
+    seed-requires
+    sweep-requires
+    has-requires
+    same-length
+    returns
+    rise-requires
+    same-length-2
+    returns-2)

@@ -1,46 +1,72 @@
--- `close` meets its contract: a pass that changed nothing, or one pass where no edge stays at its entry, settles every edge. Assumes nothing.
-use Prim.Native.Nat.{_-_, _^_}
-use Rattle.aldlf.specs.Constants.{stateLimit}
-use Rattle.reach.proofs.Closure.{closed-once, closed-same, closing-pass, closing-start}
-use Rattle.reach.specs.Steps.{Closing}
-use borrow.Author.Tests.{not-true}
+-- `close` meets its contract: a mask closed by its columns is closed by its edges. Assumes nothing.
+use Rattle.reach.proofs.Settling.{closed-columns, closed-size}
+use Rattle.reach.specs.Steps.{Beside, Closed}
 use denote.Ref.{now}
+use mathlib.Core.Bool.{Bool}
+use mathlib.Core.Path.{subst, sym}
 use native.Mathlib.Omega.{arith}
+use Prim.Native.Nat.{_+_}
+use borrow.Author.Needs.{needs}
 use Rattle.reach.proofs.closing.close.Statement.{statement}
 use Rattle.reach.proofs.closing.close.Tie as tie
+use Rattle.reach.proofs.closing.close.Reads as reads
+use Rattle.reach.proofs.closing.close.Lts as lts
+use Rattle.reach.proofs.closing.beside.Reads as beside-reads
+use Rattle.reach.proofs.closing.within.Reads as within-reads
+use Rattle.reach.proofs.steps.has.Reads as has-reads
 
-abbrev Inv-loop : tie.InvT-loop
-Inv-loop edges around stays start mask₀ mask = Closing edges around start mask
+-- src/closing.rt:27:24
+has-requires : tie.Need-has-requires
+has-requires c κs = search needs
 
-abbrev μ-loop : tie.MeasureT-loop
-μ-loop edges around stays start mask₀ mask = 2 ^ stateLimit - mask
+-- src/closing.rt:27:46
+add-beside : tie.Need-add-beside
+add-beside c = search needs
 
-loop-holds : tie.Need-loop-holds Inv-loop μ-loop
-loop-holds c = let S = c .before in closing-start (now (S .args .edges)) (S .args .around) (S .args .start) (S .pre .1 .0)
+-- src/closing.rt:27:9
+beside-requires : tie.Need-beside-requires
+beside-requires c κs = search needs
 
-pass-requires : tie.Need-pass-requires Inv-loop μ-loop
-pass-requires c κs = (c .before .before .pre .0, c .loop .inv .fits)
+-- src/closing.rt:28:25
+has-requires-2 : tie.Need-has-requires-2
+has-requires-2 c κs = search needs
 
-returns : tie.Need-returns Inv-loop μ-loop
-returns c = let S = c .before .before .before .before in
-    let l = c .before .before .loop in
-    closed-once (now (S .args .edges)) (S .args .around) (S .args .start) (l .mask) _ (l .inv) (c .before .pass .ensures) (S .args .stays) (S .pre .1 .1) (not-true _ (c .if1 .taken))
+-- src/closing.rt:28:47
+add-beside-2 : tie.Need-add-beside-2
+add-beside-2 c = search needs
 
-returns-2 : tie.Need-returns-2 Inv-loop μ-loop
-returns-2 c = let S = c .before .before .before .before .before in
-    let l = c .before .before .before .loop in
-    let p = c .before .before .pass .ensures in
-    closed-same (now (S .args .edges)) (S .args .around) (S .args .start) (l .mask) _ (l .inv) p (omega (arith, c .if2 .taken, p .closing .grown))
+-- src/closing.rt:28:9
+beside-requires-2 : tie.Need-beside-requires-2
+beside-requires-2 c κs = search needs
 
-loop-less : tie.Need-loop-less Inv-loop μ-loop
-loop-less c = let K = c .before .before .pass .ensures .closing in omega (arith, c .if2 .left, K .grown, K .fits)
+-- src/closing.rt:29:5
+within-requires : tie.Need-within-requires
+within-requires c κs = search needs
 
-loop-again : tie.Need-loop-again Inv-loop μ-loop
-loop-again c = let S = c .before .before .before .before .before in
-    let l = c .before .before .before .loop in
-    closing-pass (now (S .args .edges)) (S .args .around) (S .args .start) (l .mask) _ (l .inv) (c .before .before .pass .ensures)
+-- src/closing.rt:22:1
+returns : tie.Need-returns
+returns c = let S = c .before .before .before .before .before .before in
+    let a = S .args in
+    let W = c .within .ensures in
+    let x = c .before .before .before .beside in
+    let y = c .before .beside2 in
+    let sized = closed-size (a .start) (x .result) (y .result) (W .within) (omega (arith, S .fits .start)) (x .ensures .fits) (y .ensures .fits) (W .beside .fits) in
+    ((omega (arith, sized .0, W .result), omega (arith, sized .1, W .result)),
+      λ E word f told K. subst (Closed E word (a .around .ahead) (a .around .behind) (a .v .due) (a .start)) (sym (W .result))
+      (closed-columns E f (a .v .looks) (a .v .due) told word (a .around .ahead) (a .around .behind) (now (a .steps)) (a .place) K (a .start) (x .result) (y .result) (W .within)
+      (subst (λ (b : Bool). Beside b (now (a .steps)) (a .place + 16) (a .around .ahead) (x .result)) (c .before .before .before .before .has .ensures) (x .ensures))
+      (subst (λ (b : Bool). Beside b (now (a .steps)) (a .place + 32) (a .around .behind) (y .result)) (c .before .before .has2 .ensures) (y .ensures))
+      (W .beside)))
 
 pub close-spec : {M : Type 1} → statement M
 close-spec =
     tie.close
-    (tie.spec Inv-loop μ-loop loop-holds pass-requires returns returns-2 loop-less loop-again)
+    (tie.spec
+    has-requires
+    add-beside
+    beside-requires
+    has-requires-2
+    add-beside-2
+    beside-requires-2
+    within-requires
+    returns)

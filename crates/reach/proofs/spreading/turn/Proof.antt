@@ -1,77 +1,100 @@
--- `turn` meets its contract: not flagged, visited with no change, or visited and the entries beside flagged. Assumes nothing.
+-- `turn` meets its contract: nothing due, visited with no change, or visited and the entries beside made due. Assumes nothing.
 use Prim.Native.Nat.{_<_}
 use Rattle.reach.proofs.Turns.{turned-more, turned-same, turned-skip}
-use borrow.Author.Needs.{needs}
+use Rattle.reach.specs.Steps.{Touched, Turned}
+use borrow.Author.Tests.{not-false, not-true}
 use denote.Ref.{now}
-use lib.ListN.{length, length-set}
-use mathlib.Core.Path.{_∙_}
+use lib.ListN.{length, length-set, set}
+use mathlib.Core.Bool.{Bool}
+use mathlib.Core.Path.{refl, sym, subst, _∙_}
 use native.Mathlib.Omega.{arith}
+use borrow.Author.Needs.{needs}
 use Rattle.reach.proofs.spreading.turn.Statement.{statement}
 use Rattle.reach.proofs.spreading.turn.Tie as tie
+use Rattle.reach.proofs.spreading.turn.Reads as reads
+use Rattle.reach.proofs.spreading.turn.Lts as lts
+use Rattle.reach.proofs.spreading.touch.Reads as touch-reads
+use Rattle.reach.proofs.spreading.visit_entry.Reads as visit-entry-reads
+use Rattle.reach.proofs.steps.has.Reads as has-reads
 
-in-todo : (S : tie.Start) → S .args .v .entry < length (now (S .args .todo))
-in-todo S = let K = S .pre .1 .1 .1 .1 in omega (arith, K .room, S .pre .1 .1 .0)
+-- src/spreading.rt:89:15
+mul-due : tie.Need-mul-due
+mul-due c = search needs
 
-mul-if1 : tie.Need-mul-if1
-mul-if1 c = omega (arith, in-todo (c .before .before .before .before))
+-- src/spreading.rt:89:15
+slice-read-due : tie.Need-slice-read-due
+slice-read-due c = search needs
 
-slice-read-if1 : tie.Need-slice-read-if1
-slice-read-if1 c = in-todo (c .before .before .before .before .before)
-
+-- src/spreading.rt:91:9
 returns : tie.Need-returns
-returns c = let S = c .before .before .before .before .before .before in
-    turned-skip (now (S .args .edges)) (S .args .v .exits) (now (S .args .words)) (now (S .args .masks)) (now (S .args .todo)) (S .args .v .entry) (c .if1 .taken)
+returns c = let S = c .before .before .before .before .before in turned-skip (S .args .v .exits) (S .args .v .looks) (now (S .args .steps)) (now (S .args .masks)) (now (S .args .todo)) (S .args .v .entry) (c .if1 .taken)
 
+-- src/spreading.rt:93:5
 mul-todo : tie.Need-mul-todo
-mul-todo c = omega (arith, in-todo (c .before .before .before .before .before .before))
+mul-todo c = search needs
 
+-- src/spreading.rt:93:5
 slice-write-todo : tie.Need-slice-write-todo
-slice-write-todo c = in-todo (c .before .before .before .before .before .before)
+slice-write-todo c = search needs
 
+-- src/spreading.rt:100:9
 visit-entry-requires : tie.Need-visit-entry-requires
-visit-entry-requires c κs = let S = c .before .before .before .before .before .before .before in
-    let K = S .pre .1 .1 .1 .1 in
-    (S .pre .0, (S .pre .1 .0, (S .pre .1 .1 .0, K .same, K .fits (S .args .v .entry) (S .pre .1 .1 .0))))
+visit-entry-requires c κs = search needs
 
-touch-requires : tie.Need-touch-requires
-touch-requires c κs = let S = c .before .before .before .before .before .before .before .before .before .before .before .before in omega (arith, length-set (now (S .args .todo)) (S .args .v .entry) 0, in-todo S)
-
+-- src/spreading.rt:101:9
 same-length : tie.Need-same-length
 same-length c = search needs
 
+-- src/spreading.rt:101:9
 same-length-2 : tie.Need-same-length-2
-same-length-2 c = let S = c .before .before .before .before .before .before .before .before .before .before .before .before .before .before .before in c .before .before .touch .ensures .same ∙ length-set (now (S .args .todo)) (S .args .v .entry) 0
+same-length-2 c = search needs
 
+-- src/spreading.rt:101:9
 returns-2 : tie.Need-returns-2
-returns-2 c = let S = c .before .before .before .before .before .before .before .before .before .before .before .before .before .before .before in
-    turned-more (now (S .args .edges)) (S .args .v .exits) (now (S .args .words)) (now (S .args .masks)) (now (S .args .todo)) (S .args .v .entry)
-    (S .pre .0) (S .pre .1 .1 .0) (S .pre .1 .1 .1 .0) (S .pre .1 .1 .1 .1) _ _ (c .before .before .before .before .before .before .before .visit-entry .ensures) (c .before .before .before .before .if2 .taken) (S .args .v .looks) (S .pre .1 .0) _ (c .before .before .touch .ensures)
+returns-2 c = let S = c .before .before .before .before .before .before .before .before .before .before in
+    turned-same _ (now (S .args .steps)) (now (S .args .masks)) (now (S .args .todo)) _ _ (c .before .before .before .visit-entry .ensures) refl (S .pre .1 .0) (S .pre .1 .1) (not-true _ (c .if2 .taken))
 
+-- src/spreading.rt:103:9
+has-requires : tie.Need-has-requires
+has-requires c κs = search needs
+
+-- src/spreading.rt:104:5
+touch-requires : tie.Need-touch-requires
+touch-requires c κs = let S = c .before .before .before .before .before .before .before .before .before .before .before .before in omega (arith, length-set (now (S .args .todo)) (S .args .v .entry) 0, S .pre .1)
+
+-- src/spreading.rt:83:1
 same-length-3 : tie.Need-same-length-3
 same-length-3 c = search needs
 
+-- src/spreading.rt:83:1
 same-length-4 : tie.Need-same-length-4
-same-length-4 c = search needs
+same-length-4 c = let S = c .before .before .before .before .before .before .before .before .before .before .before .before .before .before .before in c .before .before .touch .ensures .same ∙ length-set (now (S .args .todo)) (S .args .v .entry) 0
 
+-- src/spreading.rt:83:1
 returns-3 : tie.Need-returns-3
-returns-3 c = let S = c .before .before .before .before .before .before .before .before .before .before .before in
-    turned-same (now (S .args .edges)) (S .args .v .exits) (now (S .args .words)) (now (S .args .masks)) (now (S .args .todo)) (S .args .v .entry)
-    (S .pre .0) (S .pre .1 .1 .0) (S .pre .1 .1 .1 .0) (S .pre .1 .1 .1 .1) _ _ (c .before .before .before .visit-entry .ensures) (c .if2 .left)
+returns-3 c = let S = c .before .before .before .before .before .before .before .before .before .before .before .before .before .before .before in
+    let ahead = c .before .before .before .before .has .ensures in
+    let T = now (S .args .todo) in
+    subst (Turned (S .args .v .exits) (S .args .v .looks) (now (S .args .steps)) (S .args .v .entry) (now (S .args .masks)) T (c .before .before .before .before .before .before .before .before .visit-entry .last .1 .1 .0) (c .before .before .touch .last .1 .0)) (sym ahead)
+    (turned-more _ (now (S .args .steps)) (now (S .args .masks)) T _ _ (c .before .before .before .before .before .before .before .before .visit-entry .ensures) refl (S .pre .1 .0) (S .pre .1 .1) (not-false _ (c .before .before .before .before .before .if2 .left))
+    (c .before .before .touch .last .1 .0)
+    (subst (λ (b : Bool). Touched b (S .args .v .entry) (set T (S .args .v .entry) 0) (c .before .before .touch .last .1 .0)) ahead (c .before .before .touch .ensures)))
 
 pub turn-spec : {M : Type 1} → statement M
 turn-spec =
     tie.close
     (tie.spec
-    mul-if1
-    slice-read-if1
+    mul-due
+    slice-read-due
     returns
     mul-todo
     slice-write-todo
     visit-entry-requires
-    touch-requires
     same-length
     same-length-2
     returns-2
+    has-requires
+    touch-requires
     same-length-3
     same-length-4
     returns-3)

@@ -1,0 +1,94 @@
+-- `add_edge` meets its contract: the edge's own column gets its state, where its node holds. Assumes nothing.
+use Prim.Native.Nat.{ℕ, _+_, _^_}
+use Rattle.aldlf.specs.Sheet.{bit}
+use Rattle.reach.specs.Marks.{at, pick, testOf, fromOf}
+use denote.Ref.{now}
+use lib.Bits.{bitOr}
+use lib.ListN.{set}
+use mathlib.Core.Bool.{Bool}
+use mathlib.Core.Path.{_≡_, refl, sym, subst, ap, ap₂, _∙_}
+use borrow.Author.Needs.{needs}
+use Rattle.reach.proofs.steps.add_edge.Statement.{statement}
+use Rattle.reach.proofs.steps.add_edge.Tie as tie
+use Rattle.reach.proofs.steps.add_edge.Reads as reads
+use Rattle.reach.proofs.steps.add_edge.Lts as lts
+use Rattle.reach.proofs.steps.column_of.Reads as column-of-reads
+use Rattle.reach.proofs.steps.joined.Reads as joined-reads
+use Rattle.reach.proofs.steps.one_bit.Reads as one-bit-reads
+use Rattle.reach.proofs.verdict.Reads as verdict-reads
+
+-- src/steps.rt:101:21
+column-of-requires : tie.Need-column-of-requires
+column-of-requires c κs = search needs
+
+-- src/steps.rt:101:13
+add-c : tie.Need-add-c
+add-c c = search needs
+
+-- src/steps.rt:102:24
+cast-one-bit : tie.Need-cast-one-bit
+cast-one-bit c = search needs
+
+-- src/steps.rt:102:9
+one-bit-requires : tie.Need-one-bit-requires
+one-bit-requires c κs = search needs
+
+-- src/steps.rt:103:33
+cast-t11 : tie.Need-cast-t11
+cast-t11 c = search needs
+
+-- src/steps.rt:103:9
+verdict-requires : tie.Need-verdict-requires
+verdict-requires c κs = search needs
+
+-- src/steps.rt:104:23
+mul-joined : tie.Need-mul-joined
+mul-joined c = search needs
+
+-- src/steps.rt:104:23
+slice-read-joined : tie.Need-slice-read-joined
+slice-read-joined c = search needs
+
+-- src/steps.rt:104:16
+joined-requires : tie.Need-joined-requires
+joined-requires c κs = search needs
+
+-- src/steps.rt:104:5
+mul-steps : tie.Need-mul-steps
+mul-steps c = search needs
+
+-- src/steps.rt:104:5
+slice-write-steps : tie.Need-slice-write-steps
+slice-write-steps c = search needs
+
+-- src/steps.rt:95:1
+same-length : tie.Need-same-length
+same-length c = search needs
+
+-- src/steps.rt:95:1
+returns : tie.Need-returns
+returns c = let a = c .before .before .before .before .before .before .args in
+    let C = now (a .steps) in
+    let col = c .before .before .before .before .column-of in
+    ap (set C (a .place + col .result))
+    (c .joined .ensures
+    ∙ ap₂ (λ (b : Bool) (z : ℕ). pick b (bitOr (at C (a .place + col .result)) z) (at C (a .place + col .result))) (c .before .before .verdict .ensures) (c .before .before .before .one-bit .ensures))
+    ∙ ap (λ (z : ℕ). set C (a .place + z) (pick (bit (a .word) (testOf (a .p))) (bitOr (at C (a .place + z)) (2 ^ fromOf (a .p))) (at C (a .place + z)))) (col .ensures .0)
+
+pub add-edge-spec : {M : Type 1} → statement M
+add-edge-spec =
+    tie.close
+    (tie.spec
+    column-of-requires
+    add-c
+    cast-one-bit
+    one-bit-requires
+    cast-t11
+    verdict-requires
+    mul-joined
+    slice-read-joined
+    joined-requires
+    mul-steps
+    slice-write-steps
+    same-length
+    returns)

@@ -1,0 +1,44 @@
+-- `make` meets its contract: cleared, the edges added, the steps that stay joined. Assumes nothing.
+use Rattle.aldlf.specs.Constants.{stateLimit}
+use Rattle.reach.proofs.Made.{apart-then, apart-wide, columns-made}
+use Prim.Native.Nat.{_+_}
+use denote.Ref.{now}
+use native.Mathlib.Omega.{arith}
+use borrow.Author.Needs.{needs}
+use Rattle.reach.proofs.steps.make.Statement.{statement}
+use Rattle.reach.proofs.steps.make.Tie as tie
+use Rattle.reach.proofs.steps.make.Reads as reads
+use Rattle.reach.proofs.steps.make.Lts as lts
+use Rattle.reach.proofs.steps.add_edges.Reads as add-edges-reads
+use Rattle.reach.proofs.steps.clear.Reads as clear-reads
+use Rattle.reach.proofs.steps.join.Reads as join-reads
+
+-- src/steps.rt:61:5
+clear-requires : tie.Need-clear-requires
+clear-requires c κs = search needs
+
+-- src/steps.rt:62:5
+add-edges-requires : tie.Need-add-edges-requires
+add-edges-requires c κs = search needs
+
+-- src/steps.rt:63:5
+join-requires : tie.Need-join-requires
+join-requires c κs = search needs
+
+-- src/steps.rt:55:1
+same-length : tie.Need-same-length
+same-length c = search needs
+
+-- src/steps.rt:55:1
+returns : tie.Need-returns
+returns c = let S = c .before .before .before .before .before .before .before .before .before .before .before .before .before .before in
+    let J = c .before .before .join .ensures in
+    let A = c .before .before .before .before .before .before .add-edges .ensures in
+    let Z = c .before .before .before .before .before .before .before .before .before .before .clear .ensures in
+    let p = S .args .place in
+    (apart-then p (p + 48) (now (S .args .steps)) _ _ (apart-then p (p + 48) (now (S .args .steps)) _ _ (Z .0) (A .0)) (apart-wide p (p + stateLimit) (p + 48) _ _ (omega arith) (J .apart)),
+      columns-made (now (S .args .edges)) (S .pre .0) (S .args .word) _ _ p (A .1) J)
+
+pub make-spec : {M : Type 1} → statement M
+make-spec =
+    tie.close (tie.spec clear-requires add-edges-requires join-requires same-length returns)

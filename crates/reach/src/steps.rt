@@ -1,0 +1,157 @@
+// Steps as columns of bits: at each entry 48 masks, for three groups of directions and 16 target states, of the states that have a step there. Made
+// once for an automaton, they serve all the nodes that name it.
+use super::verdict;
+use aldlf::Node;
+ghost use mathlib.Core.Path.{_≡_};
+ghost use Prim.Native.Nat.{ℕ, _+_, _*_, _^_, _≤_, _<_};
+ghost use lib.Bits.{bitOr};
+ghost use lib.ListN.{length, set};
+ghost use Rattle.aldlf.specs.Constants.{nodeLimit, stateLimit};
+ghost use Rattle.aldlf.specs.Sheet.{«bit» as bitOf};
+ghost use Rattle.reach.specs.Marks.{at, pick, testOf, fromOf, EdgeFits, EdgesFit};
+ghost use Rattle.reach.specs.Columns.{groupOf, columnOf, Pulled, Held, Apart, Pivoted, Joined, Columns};
+
+// The states with a step into the mask, by the 16 columns from a place on.
+pub(crate) fn pull(steps: &[u16], place: usize, mask: u16) -> u16
+    requires { ⌜ place + stateLimit ≤ length (now steps) ⌝ }
+    ensures { λ r. ⌜ Pulled (now (steps .entry)) place mask stateLimit r ⌝ }
+{
+    if mask == 0 {
+        return 0;
+    }
+    let mut found: u16 = 0;
+    let mut t: u16 = 0;
+    while t < 16 {
+        found = joined(found, steps[place + t as usize], has(mask, t));
+        t += 1;
+    }
+    found
+}
+
+// Bit s of a mask.
+pub(crate) fn has(mask: u16, s: u16) -> bool
+    requires { ⌜ s < stateLimit ⌝ }
+    ensures { λ r. ⌜ r ≡ bitOf mask s ⌝ }
+{
+    (mask >> s) % 2 == 1
+}
+
+// The mask with another's states where it is on.
+fn joined(mask: u16, more: u16, on: bool) -> u16
+    ensures { λ r. ⌜ r ≡ pick on (bitOr mask more) mask ⌝ }
+{
+    if on { mask | more } else { mask }
+}
+
+// The mask of bit s alone.
+pub(crate) fn one_bit(s: u16) -> u16
+    requires { ⌜ s < stateLimit ⌝ }
+    ensures { λ r. ⌜ r ≡ 2 ^ s ⌝ }
+{
+    1 << s
+}
+
+// The 48 columns from a place on, at an entry with this word; the other places keep their content.
+pub(crate) fn make(edges: &[u32], word: u64, place: usize, steps: &mut [u16])
+    requires { ⌜ EdgesFit (now edges) ⌝ }
+    requires { ⌜ place + 48 ≤ length (now steps) ⌝ }
+    ensures { λ _. ⌜ Apart place (place + 48) (now (steps .entry)) (now (steps .exit)) ⌝ }
+    ensures { λ _. ⌜ Columns (now (edges .entry)) word (now (steps .exit)) place ⌝ }
+{
+    clear(place, steps);
+    add_edges(edges, word, place, steps);
+    join(place, steps);
+}
+
+// No steps.
+fn clear(place: usize, steps: &mut [u16])
+    requires { ⌜ place + 48 ≤ length (now steps) ⌝ }
+    ensures { λ _. ⌜ Apart place (place + 48) (now (steps .entry)) (now (steps .exit)) ⌝ }
+    ensures { λ _. ⌜ ((c : ℕ) → c < 48 → at (now (steps .exit)) (place + c) ≡ 0) ⌝ }
+{
+    let mut c: usize = 0;
+    while c < 48 {
+        steps[place + c] = 0;
+        c += 1;
+    }
+}
+
+// The steps of all edges at the entry, where there were none.
+fn add_edges(edges: &[u32], word: u64, place: usize, steps: &mut [u16])
+    requires { ⌜ EdgesFit (now edges) ⌝ }
+    requires { ⌜ place + 48 ≤ length (now steps) ⌝ }
+    requires { ⌜ ((c : ℕ) → c < 48 → at (now steps) (place + c) ≡ 0) ⌝ }
+    ensures { λ _. ⌜ Apart place (place + 48) (now (steps .entry)) (now (steps .exit)) ⌝ }
+    ensures { λ _. ⌜ Held (now (edges .entry)) word (length (now (edges .entry))) (now (steps .exit)) place ⌝ }
+{
+    let mut e: usize = 0;
+    while e < edges.len() {
+        add_edge(edges[e], word, place, steps);
+        e += 1;
+    }
+}
+
+// The step of edge p, where its node holds.
+fn add_edge(p: u32, word: u64, place: usize, steps: &mut [u16])
+    requires { ⌜ EdgeFits p ⌝ }
+    requires { ⌜ place + 48 ≤ length (now steps) ⌝ }
+    ensures { λ _. ⌜ now (steps .exit) ≡ set (now (steps .entry)) (place + columnOf p)
+        (pick (bitOf word (testOf p)) (bitOr (at (now (steps .entry)) (place + columnOf p)) (2 ^ fromOf p)) (at (now (steps .entry)) (place + columnOf p))) ⌝ }
+{
+    let c = place + column_of(p);
+    let from = one_bit((p % 256) as u16);
+    let on = verdict(word, Node((p / 16777216) as u8));
+    steps[c] = joined(steps[c], from, on);
+}
+
+// The column of edge p among its entry's 48.
+fn column_of(p: u32) -> usize
+    requires { ⌜ EdgeFits p ⌝ }
+    ensures { λ r. ⌜ (r ≡ columnOf p) × (r < 48) ⌝ }
+{
+    let to = (p / 256 % 256) as usize;
+    let dir = (p / 65536 % 256) as u8;
+    16 * (group_of(dir) as usize) + to
+}
+
+// The group of a direction: 0 stays, 1 goes ahead, 2 goes back.
+pub(crate) fn group_of(dir: u8) -> u16
+    ensures { λ r. ⌜ (r ≡ groupOf dir) × (r < 3) ⌝ }
+{
+    if dir == 0 {
+        return 0;
+    }
+    if dir == 1 {
+        return 1;
+    }
+    2
+}
+
+// Several steps that stay, as one.
+fn join(place: usize, steps: &mut [u16])
+    requires { ⌜ place + stateLimit ≤ length (now steps) ⌝ }
+    ensures { λ _. ⌜ Joined (now (steps .entry)) place stateLimit (now (steps .exit)) ⌝ }
+{
+    let mut k: u16 = 0;
+    while k < 16 {
+        pivot(k, place, steps);
+        k += 1;
+    }
+}
+
+// Steps by way of state k, as one.
+fn pivot(k: u16, place: usize, steps: &mut [u16])
+    requires { ⌜ (k < stateLimit) × (place + stateLimit ≤ length (now steps)) ⌝ }
+    ensures { λ _. ⌜ Pivoted (now (steps .entry)) place k stateLimit (now (steps .exit)) ⌝ }
+{
+    let into = steps[place + k as usize];
+    if into == 0 {
+        return;
+    }
+    let mut u: usize = 0;
+    while u < 16 {
+        let x = steps[place + u];
+        steps[place + u] = joined(x, into, has(x, k));
+        u += 1;
+    }
+}
