@@ -61,24 +61,19 @@ put-next buffer words i hb hw =
     ∙ sym (append-snoc (take i words) (getD words i 0) (drop (suc i) buffer))
     ∙ ap (λ (r : List ℕ). r ++ drop (suc i) buffer) (sym (take-suc words i 0 hw)))
 
--- the first places of an array of zeros
-zeros-at : (n j : ℕ) → let z : ℕ = 0 in getD (replicate n z) j z ≡ z
+-- Scratch -----------------------------------------------------------------------------------------------------------------------
+
+pub zeros-at : (n j : ℕ) → let z : ℕ = 0 in getD (replicate n z) j z ≡ z
 zeros-at zero j = refl
 zeros-at (suc n) zero = refl
 zeros-at (suc n) (suc j) = zeros-at n j
 
-pub zeros-long : (n : ℕ) → n ≤ entryLimit → let z : ℕ = 0 in length (take n (replicate entryLimit z)) ≡ n
-zeros-long n l = length-take-le n (replicate entryLimit 0) l
+-- the first places of l after they were lent and came back as w
+pub lent-back : (n : ℕ) (w l : List ℕ) → length w ≡ n → take n (w ++ drop n l) ≡ w
+lent-back n w l e = take-at w (drop n l) n e
 
-pub zeros-first : (n i : ℕ) → i < n → let z : ℕ = 0 in at (take n (replicate entryLimit z)) i ≡ 0
-zeros-first n i l = getD-take n (replicate entryLimit 0) i 0 l ∙ zeros-at entryLimit i
-
--- and the array after they were lent and came back as w
-pub lent-room : (n : ℕ) (w : List ℕ) → n ≤ entryLimit → length w ≡ n → n ≤ length (w ++ drop n (replicate entryLimit 0))
-lent-room n w l e = subst (λ (k : ℕ). n ≤ k) (sym (length-front (replicate entryLimit 0) w n (e ∙ sym (zeros-long n l)))) l
-
-pub lent-put : (n : ℕ) (w buffer : List ℕ) → length w ≡ n → take n (w ++ drop n (replicate entryLimit 0)) ++ drop (length (take n (w ++ drop n (replicate entryLimit 0)))) buffer ≡ w ++ drop n buffer
-lent-put n w buffer e = ap (λ (l : List ℕ). l ++ drop (length l) buffer) (take-at w (drop n (replicate entryLimit 0)) n e) ∙ ap (λ (k : ℕ). w ++ drop k buffer) e
+pub lent-put : (n : ℕ) (w l buffer : List ℕ) → length w ≡ n → take n (w ++ drop n l) ++ drop (length (take n (w ++ drop n l))) buffer ≡ w ++ drop n buffer
+lent-put n w l buffer e = ap (λ (l : List ℕ). l ++ drop (length l) buffer) (lent-back n w l e) ∙ ap (λ (k : ℕ). w ++ drop k buffer) e
 
 -- Arrays of 64 ------------------------------------------------------------------------------------------------------------------
 

@@ -22,16 +22,12 @@ use Rattle.sheet.specs.Facts.{nodeAt, automatonAt, edgeAt, AutomatonFacts}
 use Rattle.reach.specs.Marks.{at, packedOf, EdgesFit}
 use Rattle.judge.specs.declared.nodes.Job.{Job}
 use Rattle.judge.specs.declared.nodes.NodeAnswer.{NodeAnswer}
-use Rattle.judge.specs.Nodes.{modalKind, saysNow, PlainFits, Added, ModalFits, ModalDone, Packed, Known, NodeDone}
+use Rattle.judge.specs.Nodes.{modalKind, saysNow, PlainFits, Added, ModalFits, ModalDone, Packed, Known, NodeDone, cutOf}
 use Rattle.judge.proofs.Slices.{edges-fit, slice-reached}
 use Rattle.judge.proofs.WordLaws.{plain-of, plain-bits, words-low, added-words, added-count}
 use Rattle.judge.proofs.RowLaws.{inner, row-form, plain-number}
 use Rattle.judge.proofs.ModalLaws.{jobAt, node-modal}
 use Rattle.judge.proofs.GivenLaws.{modal-facts, automaton-facts}
-
--- the edges of an automaton, cut out of all
-abbrev pub cutOf : Automaton → List ℕ → List ℕ
-cutOf q edges = take ((q .first + q .count) - q .first) (drop (q .first) edges)
 
 module _ (edges : List ℕ) (a c : ℕ) (l : a + c ≤ length edges) where
   cut-length : length (take ((a + c) - a) (drop a edges)) ≡ c
@@ -44,10 +40,10 @@ module _ (t : Table) (m : ℕ) (f : AutomatonFacts t m) (edges : List ℕ) (P : 
   in-edges : automatonAt t m .first + automatonAt t m .count ≤ length edges
   in-edges = omega (arith, f .edges≤, P .room)
 
-  size : length (cutOf (automatonAt t m) edges) ≡ automatonAt t m .count
+  pub size : length (cutOf (automatonAt t m) edges) ≡ automatonAt t m .count
   size = cut-length edges (automatonAt t m .first) (automatonAt t m .count) in-edges
 
-  at-cut : (c : ℕ) → c < length (cutOf (automatonAt t m) edges) → at (cutOf (automatonAt t m) edges) c ≡ at edges (automatonAt t m .first + c)
+  pub at-cut : (c : ℕ) → c < length (cutOf (automatonAt t m) edges) → at (cutOf (automatonAt t m) edges) c ≡ at edges (automatonAt t m .first + c)
   at-cut c l = cut-at edges (automatonAt t m .first) (automatonAt t m .count) in-edges c (omega (arith, size))
 
 -- what judging a D or B asks for

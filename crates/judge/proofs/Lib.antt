@@ -4,6 +4,7 @@ pub mod WordLaws
 pub mod RowLaws
 pub mod ModalLaws
 pub mod KnownLaws
+pub mod StepLaws
 pub mod QuestionLaws
 pub mod GivenLaws
 pub mod OutcomeLaws

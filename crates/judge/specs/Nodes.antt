@@ -1,12 +1,12 @@
 -- Helper definitions that only the proofs of the code need: a node judged from the words of those before it, and what is known on the way.
-use Prim.Native.Nat.{ℕ, zero, suc, _+_, _-_, _^_, _%_, _≤_, _<_}
+use Prim.Native.Nat.{ℕ, zero, suc, _+_, _-_, _*_, _^_, _%_, _≤_, _<_}
 use mathlib.Core.Path.{_≡_}
 use mathlib.Core.Logic.{_⊎_}
 use mathlib.Core.Bool.{Bool, true, false, not, _&&_, _||_}
 use mathlib.Core.List.{List, _++_}
 use lib.Dec.{eqb}
-use lib.ListN.{getD, length, drop}
-use Rattle.aldlf.specs.Constants.{nodeLimit, stateLimit, letterP, letterN, letterA, letterO, letterD, letterB}
+use lib.ListN.{getD, length, take, drop}
+use Rattle.aldlf.specs.Constants.{nodeLimit, automatonLimit, stateLimit, letterP, letterN, letterA, letterO, letterD, letterB}
 use Rattle.aldlf.specs.Sheet.{Sheet, Line, T, F, P, N, A, O, D, B, bit, sheetOf}
 use Rattle.aldlf.specs.Parts.{Bits, rowEntry}
 use Rattle.aldlf.specs.Verdict.{facing, judge, rowOf}
@@ -14,11 +14,14 @@ use Rattle.aldlf.specs.Outcomes.{packBits, countBelow, bitsOf, packRow, partWor
 use Rattle.aldlf.specs.declared.Table.{Table}
 use Rattle.aldlf.specs.declared.Row.{Row}
 use Rattle.aldlf.specs.declared.NodeLine.{NodeLine}
+use Rattle.aldlf.specs.declared.Automaton.{Automaton}
 use Rattle.sheet.specs.Facts.{nodeAt, automatonAt, edgeAt, TableFacts}
 use Rattle.reach.specs.Marks.{at, pick, verdictIn, verdictAdded, packedOf, Reaching}
+use Rattle.reach.specs.Columns as steps
 use Rattle.judge.specs.declared.core.Part.{Part}
 use Rattle.judge.specs.declared.core.CoreAnswer.{CoreAnswer}
 use Rattle.judge.specs.declared.nodes.Job.{Job}
+use Rattle.judge.specs.declared.nodes.Have.{Have}
 use Rattle.judge.specs.declared.nodes.NodeAnswer.{NodeAnswer}
 
 -- A D or B line's letter.
@@ -72,10 +75,11 @@ pub record ModalFits (j : Job) : Type 0 where
 -- A D (want) or B line with these edges: its masks, its bits, its number in the row.
 pub record ModalDone (E : List ℕ) (j : Job) (before after : List ℕ) (r : NodeAnswer) : Type 0 where
   pub masks : List ℕ
+  pub looks : ℕ
   pub small : j .given < 65536
   pub reaching :
       let want = eqb (j .line .kind) letterD in
-      Reaching E (record { accepting = j .automaton .accepting; node = record { 0 = j .line .b }; want = want; exits = facingMask (j .given) want }) before masks
+      Reaching E (record { accepting = j .automaton .accepting; node = record { 0 = j .line .b }; want = want; exits = facingMask (j .given) want; looks = looks }) before masks
   pub added : Added (j .number .0) (λ i. facing (eqb (j .line .kind) letterD) (bit (at masks i) (j .automaton .start .0))) (length before) before after (r .held)
   pub number : r .number ≡ rowNumber j (eqb (j .line .kind) letterD) masks
 
@@ -115,6 +119,28 @@ pub record NodeDone (t : Table) (row : Row) (j : Job) (log words : List ℕ) (r 
   pub held-is : r .held ≡ heldAfter (sheetOf t) (bitsOf row) log (j .number .0 + 1)
   pub words-are : Words (sheetOf t) (bitsOf row) log (j .number .0 + 1) words
   pub row-is : r .number ≡ packBits stateLimit (λ s. rowOf (j .way) (sheetOf t) log (bitsOf row) (j .number .0) s)
+
+-- The edges of an automaton, cut out of all.
+abbrev pub cutOf : Automaton → List ℕ → List ℕ
+cutOf q edges = take ((q .first + q .count) - q .first) (drop (q .first) edges)
+
+-- The steps are those of these edges at all entries, and the edges go these ways.
+pub record Stepped (E words : List ℕ) (looks : ℕ) (C : List ℕ) : Type 0 where
+  pub told : steps.Told E looks (length E)
+  pub placed : steps.Placed (length words) C
+  pub filled : steps.Filled E words (length words) C
+
+-- The steps at hand are those of an automaton that stands above node k; of none where there is no such automaton.
+pub record Kept (t : Table) (edges words : List ℕ) (k : ℕ) (have : Have) (C : List ℕ) : Type 0 where
+  pub long : length C ≡ 49 * length words
+  pub there : have .automaton < automatonLimit → have .automaton < t .used .automata
+  pub above : have .automaton < automatonLimit → automatonAt t (have .automaton) .before ≤ k
+  pub stepped : have .automaton < automatonLimit → Stepped (cutOf (automatonAt t (have .automaton)) edges) words (have .looks) C
+
+-- The steps at hand are ready for a node: those of its automaton, if it is a D or B.
+pub record Ready (t : Table) (j : Job) (edges words : List ℕ) (have : Have) (C : List ℕ) : Type 0 where
+  pub kept : Kept t edges words (j .number .0) have C
+  pub mine : modalKind (j .line .kind) ≡ true → Stepped (cutOf (j .automaton) edges) words (have .looks) C
 
 -- All nodes are judged.
 pub record CoreDone (p : Part) (log words : List ℕ) (r : CoreAnswer) : Type 0 where

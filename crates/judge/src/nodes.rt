@@ -9,16 +9,19 @@ use aldlf::NodeLine;
 use aldlf::Way;
 use reach::Goal;
 ghost use mathlib.Core.Path.{_≡_};
-ghost use Prim.Native.Nat.{ℕ, _+_, _^_, _<_};
+ghost use mathlib.Core.Bool.{true};
+ghost use mathlib.Core.List.{List};
+ghost use Prim.Native.Nat.{ℕ, _+_, _*_, _^_, _≤_, _<_};
 ghost use lib.ListN.{length};
-ghost use Rattle.aldlf.specs.Constants.{nodeLimit};
+ghost use Rattle.aldlf.specs.Constants.{nodeLimit, entryLimit};
 ghost use Rattle.aldlf.specs.Sheet.{lineOf, «bit» as bitOf};
 ghost use Rattle.aldlf.specs.Verdict.{facing};
 ghost use Rattle.aldlf.specs.Outcomes.{one};
 ghost use Rattle.aldlf.specs.declared.Table.{Table};
 ghost use Rattle.aldlf.specs.declared.Row.{Row};
 ghost use Rattle.reach.specs.Marks.{at, EdgesFit};
-ghost use Rattle.judge.specs.Nodes.{saysNow, PlainFits, Added, ModalFits, ModalDone, Known, NodeDone};
+ghost use Rattle.reach.specs.Columns.{Placed};
+ghost use Rattle.judge.specs.Nodes.{modalKind, saysNow, PlainFits, Added, ModalFits, ModalDone, Known, NodeDone, cutOf, Stepped, Kept, Ready};
 
 // A node to judge: its number and line, the automaton that its line names if it is a D or B, its number in the row that is
 // given, and the way that parts are cut.
@@ -36,27 +39,56 @@ pub(crate) struct NodeAnswer {
     pub(crate) held: usize,
 }
 
+// The automaton whose steps are at hand, 16 for none, and which ways its edges go.
+pub(crate) struct Have {
+    pub(crate) automaton: u8,
+    pub(crate) looks: u16,
+}
+
+// The steps made ready for a node: where it is a D or B of another automaton than the one they are of, they are filled anew.
+pub(crate) fn ready(job: Job, have: Have, edges: &[u32], words: &[u64], steps: &mut [u16]) -> Have
+    requires { ⌜ ((t : Table) × (row : Row) × (log : List ℕ) × Known t row job log (now edges) (now words)) ⌝ }
+    requires { ⌜ (length (now steps) ≡ 49 * length (now words)) × (length (now words) ≤ entryLimit) ⌝ }
+    ensures { λ r. ⌜ ((t : Table) (row : Row) (log : List ℕ) → Known t row job log (now (edges .entry)) (now (words .entry))
+        → Kept t (now (edges .entry)) (now (words .entry)) (job .number .0) have (now (steps .entry)) → Ready t job (now (edges .entry)) (now (words .entry)) r (now (steps .exit))) ⌝ }
+{
+    let m = job.line.a;
+    if !is_modal(job.line.kind) {
+        return have;
+    }
+    if m == have.automaton {
+        return have;
+    }
+    let first = job.automaton.first as usize;
+    let last = first + (job.automaton.count as usize);
+    let looks = reach::filling::fill(&edges[first..last], words, steps);
+    Have {
+        automaton: m,
+        looks,
+    }
+}
+
 // The node judged from the words of the nodes before it.
 pub(crate) fn judge_node(
     job: Job,
+    looks: u16,
     log: &[u32],
-    edges: &[u32],
     words: &mut [u64],
+    steps: &[u16],
     masks: &mut [u16],
-    todo: &mut [u16],
 ) -> NodeAnswer
-    requires { ⌜ ((t : Table) × (row : Row) × Known t row job (now log) (now edges) (now words)) ⌝ }
-    requires { ⌜ (length (now masks) ≡ length (now log)) × (length (now todo) ≡ length (now log)) ⌝ }
-    ensures { λ r. ⌜ ((t : Table) (row : Row) → Known t row job (now (log .entry)) (now (edges .entry)) (now (words .entry)) → NodeDone t row job (now (log .entry)) (now (words .exit)) r) ⌝ }
+    requires { ⌜ ((t : Table) × (row : Row) × (edges : List ℕ) × Known t row job (now log) edges (now words)) ⌝ }
+    requires { ⌜ (modalKind (job .line .kind) ≡ true → Placed (length (now words)) (now steps)) ⌝ }
+    requires { ⌜ (length (now masks) ≡ length (now log)) × (length (now log) ≤ entryLimit) ⌝ }
+    ensures { λ r. ⌜ ((t : Table) (row : Row) (edges : List ℕ) → Known t row job (now (log .entry)) edges (now (words .entry))
+        → (modalKind (job .line .kind) ≡ true → Stepped (cutOf (job .automaton) edges) (now (words .entry)) looks (now (steps .entry))) → NodeDone t row job (now (log .entry)) (now (words .exit)) r) ⌝ }
 {
     let line = job.line;
     if !is_modal(line.kind) {
         let held = judge_plain(line, job.number, log, words);
         return NodeAnswer { number: 0, held };
     }
-    let first = job.automaton.first as usize;
-    let last = first + (job.automaton.count as usize);
-    judge_modal(job, &edges[first..last], words, masks, todo)
+    judge_modal(job, looks, words, steps, masks)
 }
 
 // A line that is no D or B.
@@ -78,18 +110,18 @@ fn judge_plain(line: NodeLine, number: Node, log: &[u32], words: &mut [u64]) -> 
     held
 }
 
-// A D or B line. The edges are those of its automaton.
+// A D or B line, by the steps of its automaton.
 fn judge_modal(
     job: Job,
-    edges: &[u32],
+    looks: u16,
     words: &mut [u64],
+    steps: &[u16],
     masks: &mut [u16],
-    todo: &mut [u16],
 ) -> NodeAnswer
-    requires { ⌜ EdgesFit (now edges) ⌝ }
+    requires { ⌜ Placed (length (now words)) (now steps) ⌝ }
     requires { ⌜ ModalFits job ⌝ }
-    requires { ⌜ (length (now masks) ≡ length (now words)) × (length (now todo) ≡ length (now words)) × ((i : ℕ) → i < length (now words) → at (now words) i < 2 ^ job .number .0) ⌝ }
-    ensures { λ r. ⌜ ModalDone (now (edges .entry)) job (now (words .entry)) (now (words .exit)) r ⌝ }
+    requires { ⌜ (length (now masks) ≡ length (now words)) × (length (now words) ≤ entryLimit) × ((i : ℕ) → i < length (now words) → at (now words) i < 2 ^ job .number .0) ⌝ }
+    ensures { λ r. ⌜ ((E : List ℕ) → EdgesFit E → Stepped E (now (words .entry)) looks (now (steps .entry)) → ModalDone E job (now (words .entry)) (now (words .exit)) r) ⌝ }
 {
     let want = job.line.kind == b'D';
     let goal = Goal {
@@ -97,8 +129,9 @@ fn judge_modal(
         node: Node(job.line.b),
         want,
         exits: facing_mask(job.given, want),
+        looks,
     };
-    reach::mark(goal, edges, &*words, masks, todo);
+    reach::mark(goal, &*words, steps, masks);
     let held = write_modal(job, want, &*masks, words);
     let number = row_number(job, want, &*masks);
     NodeAnswer { number, held }

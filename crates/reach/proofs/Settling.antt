@@ -159,6 +159,7 @@ module _ (E : List ℕ) (f : EdgesFit E) (looks due : ℕ) (told : Told E looks 
 
 pub closed-size : (start x y w : ℕ) → start < 2 ^ stateLimit → x < 2 ^ stateLimit → y < 2 ^ stateLimit → w < 2 ^ stateLimit
     → (start ≤ bitOr (bitOr (bitOr start x) y) w) × (bitOr (bitOr (bitOr start x) y) w < 2 ^ stateLimit)
-closed-size start x y w a b c d =
-    (omega (arith, le-or start x, le-or (bitOr start x) y, le-or (bitOr (bitOr start x) y) w),
-      or-lt stateLimit (bitOr (bitOr start x) y) w (or-lt stateLimit (bitOr start x) y (or-lt stateLimit start x a b) c) d)
+closed-size start x y w a b c d = (
+  omega (arith, le-or start x, le-or (bitOr start x) y, le-or (bitOr (bitOr start x) y) w),
+  or-lt stateLimit (bitOr (bitOr start x) y) w (or-lt stateLimit (bitOr start x) y (or-lt stateLimit start x a b) c) d,
+)

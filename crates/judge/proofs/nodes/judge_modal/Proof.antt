@@ -1,48 +1,57 @@
--- `judge_modal` meets its contract: marks, bits and number in turn. Assumes nothing.
+-- `judge_modal` meets its contract: the masks of the configurations reached, read at the start and at the row's entry. Assumes nothing.
 use Prim.Native.Nat.{ℕ}
 use Rattle.aldlf.specs.Constants.{letterD}
-use Rattle.reach.proofs.Goals.{reaching}
 use Rattle.reach.specs.Marks.{Reaching}
-use Rattle.sheet.proofs.Grown.{node}
-use Rattle.sheet.specs.Questions.{added}
-use borrow.Author.Needs.{needs}
 use denote.Ref.{now}
 use lib.Dec.{eqb}
 use mathlib.Core.Path.{subst}
 use native.Mathlib.Omega.{arith}
+use borrow.Author.Needs.{needs}
 use Rattle.judge.proofs.nodes.judge_modal.Statement.{statement}
 use Rattle.judge.proofs.nodes.judge_modal.Tie as tie
+use Rattle.judge.proofs.nodes.judge_modal.Reads as reads
+use Rattle.judge.proofs.nodes.judge_modal.Lts as lts
+use Rattle.judge.proofs.nodes.write_modal.Reads as write-modal-reads
+use Rattle.judge.proofs.rows.facing_mask.Reads as facing-mask-reads
+use Rattle.judge.proofs.rows.row_number.Reads as row-number-reads
+use Rattle.reach.proofs.mark.Reads as mark-reads
 
+-- src/nodes.rt:131:16
 facing-mask-requires : tie.Need-facing-mask-requires
 facing-mask-requires c κs = search needs
 
+-- src/nodes.rt:134:5
 mark-requires : tie.Need-mark-requires
 mark-requires c κs = search needs
 
+-- src/nodes.rt:135:9
 write-modal-requires : tie.Need-write-modal-requires
 write-modal-requires c κs = search needs
 
+-- src/nodes.rt:136:9
 row-number-requires : tie.Need-row-number-requires
 row-number-requires c κs = search needs
 
+-- src/nodes.rt:114:1
 same-length : tie.Need-same-length
 same-length c = search needs
 
+-- src/nodes.rt:114:1
 same-length-2 : tie.Need-same-length-2
 same-length-2 c = search needs
 
-same-length-3 : tie.Need-same-length-3
-same-length-3 c = search needs
-
+-- src/nodes.rt:114:1
 returns : tie.Need-returns
-returns c = let S = c .before .before .before .before .before .before .before .before .before .before .before .before .before .before .before .before .before .before .before .before .before in
+returns c = let S = c .before .before .before .before .before .before .before .before .before .before .before .before .before .before .before .before .before in
     let j = S .args .job in
-    let M = c .before .before .before .before .before .before .before .before .before .before .before .mark .last .1 .1 .1 .0 in
-    record {
+    let r = c .before .before .before .before .before .before .before .before .before .mark in
+    let M = r .last .1 .1 .1 .0 in
+    λ E f F. record {
       masks = M;
-      small = omega (arith, c .before .before .before .before .before .before .before .before .before .before .before .before .before .before .before .before .struct-known .given);
-      reaching = subst (λ (x : ℕ). Reaching (now (S .args .edges)) (record { accepting = j .automaton .accepting; node = record { 0 = j .line .b }; want = eqb (j .line .kind) letterD; exits = x }) (now (S .args .words)) M)
-          (c .before .before .before .before .before .before .before .before .before .before .before .before .before .before .before .facing-mask .ensures) (c .before .before .before .before .before .before .before .before .before .before .before .mark .ensures);
+      looks = S .args .looks;
+      small = omega (arith, c .before .before .before .before .before .before .before .before .before .before .before .before .before .struct-known .given);
+      reaching = subst (λ (x : ℕ). Reaching E (record { accepting = j .automaton .accepting; node = record { 0 = j .line .b }; want = eqb (j .line .kind) letterD; exits = x; looks = S .args .looks }) (now (S .args .words)) M)
+          (c .before .before .before .before .before .before .before .before .before .before .before .before .facing-mask .ensures) (r .ensures E f (F .told) (F .filled));
       added = c .before .before .before .before .write-modal .ensures;
       number = c .row-number .ensures;
     }
@@ -57,5 +66,4 @@ judge-modal-spec =
     row-number-requires
     same-length
     same-length-2
-    same-length-3
     returns)

@@ -1,69 +1,68 @@
--- `judge_node` meets its contract: a line that is no D or B, or a D or B with its automaton's edges. Assumes nothing.
+-- `judge_node` meets its contract: a line that is no D or B, or a D or B by its automaton's steps. Assumes nothing.
 use Rattle.judge.proofs.KnownLaws.{asks, known-few, known-low, modal-done, plain-done, plain-fits}
-use borrow.Author.Needs.{needs}
 use borrow.Author.Tests.{not-false, not-true}
 use denote.Ref.{now}
+use lib.ListN.{length}
 use mathlib.Core.Path.{_∙_, sym}
+use native.Mathlib.Omega.{arith}
+use borrow.Author.Needs.{needs}
 use Rattle.judge.proofs.nodes.judge_node.Statement.{statement}
 use Rattle.judge.proofs.nodes.judge_node.Tie as tie
+use Rattle.judge.proofs.nodes.judge_node.Reads as reads
+use Rattle.judge.proofs.nodes.judge_node.Lts as lts
+use Rattle.judge.proofs.lines.is_modal.Reads as is-modal-reads
+use Rattle.judge.proofs.nodes.judge_modal.Reads as judge-modal-reads
+use Rattle.judge.proofs.nodes.judge_plain.Reads as judge-plain-reads
 
+-- src/nodes.rt:87:9
 is-modal-requires : tie.Need-is-modal-requires
 is-modal-requires c κs = search needs
 
+-- src/nodes.rt:88:13
 judge-plain-requires : tie.Need-judge-plain-requires
-judge-plain-requires c κs = let S = c .before .before .before .before .before .before .before .before .before in
-    let K = S .pre .0 .2 in (
-      plain-fits (S .pre .0 .0) (S .pre .0 .1) (S .args .job) (now (S .args .log)) (now (S .args .edges)) (now (S .args .words)) K (sym (c .before .before .is-modal .ensures) ∙ not-true _ (c .before .if1 .taken)),
-      (known-few (S .pre .0 .0) (S .pre .0 .1) (S .args .job) (now (S .args .log)) (now (S .args .edges)) (now (S .args .words)) K, K .words-are .size, known-low (S .pre .0 .0) (S .pre .0 .1) (S .args .job) (now (S .args .log)) (now (S .args .edges)) (now (S .args .words)) K),
+judge-plain-requires c κs = let S = c .before .before .before .before .before .before .before .before in
+    let t = S .pre .0 .0 in
+    let row = S .pre .0 .1 in
+    let E = S .pre .0 .2 in
+    let K = S .pre .0 .3 in (
+      plain-fits t row (S .args .job) (now (S .args .log)) E (now (S .args .words)) K (sym (c .before .before .is-modal .ensures) ∙ not-true _ (c .before .if1 .taken)),
+      (known-few t row (S .args .job) (now (S .args .log)) E (now (S .args .words)) K, K .words-are .size, known-low t row (S .args .job) (now (S .args .log)) E (now (S .args .words)) K),
     )
 
+-- src/nodes.rt:89:9
 same-length : tie.Need-same-length
 same-length c = search needs
 
+-- src/nodes.rt:89:9
 returns : tie.Need-returns
-returns c = let S = c .before .before .before .before .before .before .before .before .before .before .before .before in
-    λ t row K. plain-done t row (S .args .job) (now (S .args .log)) (now (S .args .edges)) (now (S .args .words)) K (sym (c .before .before .before .before .before .is-modal .ensures) ∙ not-true _ (c .before .before .before .before .if1 .taken)) _ _ (c .before .before .judge-plain .ensures)
+returns c = let S = c .before .before .before .before .before .before .before .before .before .before .before in
+    λ t row E K F. plain-done t row (S .args .job) (now (S .args .log)) E (now (S .args .words)) K (sym (c .before .before .before .before .before .is-modal .ensures) ∙ not-true _ (c .before .before .before .before .if1 .taken)) _ _ (c .before .before .judge-plain .ensures)
 
-cast-first : tie.Need-cast-first
-cast-first c = search needs
-
-cast-last : tie.Need-cast-last
-cast-last c = search needs
-
-add-last : tie.Need-add-last
-add-last c = search needs
-
-mul-judge-modal : tie.Need-mul-judge-modal
-mul-judge-modal c = search needs
-
-sub-judge-modal : tie.Need-sub-judge-modal
-sub-judge-modal c = search needs
-
-part-judge-modal-start : tie.Need-part-judge-modal-start
-part-judge-modal-start c = search needs
-
-part-judge-modal-end : tie.Need-part-judge-modal-end
-part-judge-modal-end c = let S = c .before .before .before .before .before .before .before .before .before .before in
-    asks (S .pre .0 .0) (S .pre .0 .1) (S .args .job) (now (S .args .log)) (now (S .args .edges)) (now (S .args .words)) (S .pre .0 .2) (sym (c .before .before .before .is-modal .ensures) ∙ not-false _ (c .before .before .if1 .left)) .room
-
+-- src/nodes.rt:91:5
 judge-modal-requires : tie.Need-judge-modal-requires
-judge-modal-requires c κs = let S = c .before .before .before .before .before .before .before .before .before .before .before .before .before .before in
-    let K = S .pre .0 .2 in
-    let a = asks (S .pre .0 .0) (S .pre .0 .1) (S .args .job) (now (S .args .log)) (now (S .args .edges)) (now (S .args .words)) K (sym (c .before .before .before .before .before .before .before .is-modal .ensures) ∙ not-false _ (c .before .before .before .before .before .before .if1 .left)) in
-    (a .edges-ok, (a .job-ok, (S .pre .1 .0 ∙ sym (K .words-are .size), S .pre .1 .1 ∙ sym (K .words-are .size), known-low (S .pre .0 .0) (S .pre .0 .1) (S .args .job) (now (S .args .log)) (now (S .args .edges)) (now (S .args .words)) K)))
+judge-modal-requires c κs = let S = c .before .before .before .before .before .before .before .before .before in
+    let t = S .pre .0 .0 in
+    let row = S .pre .0 .1 in
+    let E = S .pre .0 .2 in
+    let K = S .pre .0 .3 in
+    let m = sym (c .before .before .before .is-modal .ensures) ∙ not-false _ (c .before .before .if1 .left) in
+    let a = asks t row (S .args .job) (now (S .args .log)) E (now (S .args .words)) K m in
+    (S .pre .1 .0 m, (a .job-ok, (S .pre .1 .1 .0 ∙ sym (K .words-are .size), omega (arith, S .pre .1 .1 .1, K .words-are .size), known-low t row (S .args .job) (now (S .args .log)) E (now (S .args .words)) K)))
 
+-- src/nodes.rt:72:1
 same-length-2 : tie.Need-same-length-2
 same-length-2 c = search needs
 
+-- src/nodes.rt:72:1
 same-length-3 : tie.Need-same-length-3
 same-length-3 c = search needs
 
-same-length-4 : tie.Need-same-length-4
-same-length-4 c = search needs
-
+-- src/nodes.rt:72:1
 returns-2 : tie.Need-returns-2
-returns-2 c = let S = c .before .before .before .before .before .before .before .before .before .before .before .before .before .before .before .before .before .before .before .before .before in
-    λ t row K. modal-done t row (S .args .job) (now (S .args .log)) (now (S .args .edges)) (now (S .args .words)) K (sym (c .before .before .before .before .before .before .before .before .before .before .before .before .before .before .is-modal .ensures) ∙ not-false _ (c .before .before .before .before .before .before .before .before .before .before .before .before .before .if1 .left)) _ _ (c .before .before .before .before .before .before .judge-modal .ensures)
+returns-2 c = let S = c .before .before .before .before .before .before .before .before .before .before .before .before .before .before in
+    let m = sym (c .before .before .before .before .before .before .before .before .is-modal .ensures) ∙ not-false _ (c .before .before .before .before .before .before .before .if1 .left) in
+    λ t row E K F. modal-done t row (S .args .job) (now (S .args .log)) E (now (S .args .words)) K m _ _
+    (c .before .before .before .before .judge-modal .ensures _ (asks t row (S .args .job) (now (S .args .log)) E (now (S .args .words)) K m .edges-ok) (F m))
 
 pub judge-node-spec : {M : Type 1} → statement M
 judge-node-spec =
@@ -73,15 +72,7 @@ judge-node-spec =
     judge-plain-requires
     same-length
     returns
-    cast-first
-    cast-last
-    add-last
-    mul-judge-modal
-    sub-judge-modal
-    part-judge-modal-start
-    part-judge-modal-end
     judge-modal-requires
     same-length-2
     same-length-3
-    same-length-4
     returns-2)

@@ -50,13 +50,14 @@ returns c = let S = c .before .before .before .before .before .before in
     let W = c .within .ensures in
     let x = c .before .before .before .beside in
     let y = c .before .beside2 in
-    let sized = closed-size (a .start) (x .result) (y .result) (W .within) (omega (arith, S .fits .start)) (x .ensures .fits) (y .ensures .fits) (W .beside .fits) in
-    ((omega (arith, sized .0, W .result), omega (arith, sized .1, W .result)),
+    let sized = closed-size (a .start) (x .result) (y .result) (W .within) (omega (arith, S .fits .start)) (x .ensures .fits) (y .ensures .fits) (W .beside .fits) in (
+      (omega (arith, sized .0, W .result), omega (arith, sized .1, W .result)),
       λ E word f told K. subst (Closed E word (a .around .ahead) (a .around .behind) (a .v .due) (a .start)) (sym (W .result))
-      (closed-columns E f (a .v .looks) (a .v .due) told word (a .around .ahead) (a .around .behind) (now (a .steps)) (a .place) K (a .start) (x .result) (y .result) (W .within)
-      (subst (λ (b : Bool). Beside b (now (a .steps)) (a .place + 16) (a .around .ahead) (x .result)) (c .before .before .before .before .has .ensures) (x .ensures))
-      (subst (λ (b : Bool). Beside b (now (a .steps)) (a .place + 32) (a .around .behind) (y .result)) (c .before .before .has2 .ensures) (y .ensures))
-      (W .beside)))
+          (closed-columns E f (a .v .looks) (a .v .due) told word (a .around .ahead) (a .around .behind) (now (a .steps)) (a .place) K (a .start) (x .result) (y .result) (W .within)
+          (subst (λ (b : Bool). Beside b (now (a .steps)) (a .place + 16) (a .around .ahead) (x .result)) (c .before .before .before .before .has .ensures) (x .ensures))
+          (subst (λ (b : Bool). Beside b (now (a .steps)) (a .place + 32) (a .around .behind) (y .result)) (c .before .before .has2 .ensures) (y .ensures))
+          (W .beside)),
+    )
 
 pub close-spec : {M : Type 1} → statement M
 close-spec =

@@ -73,11 +73,12 @@ loop-again c = let S = c .before .before .before .before .before .before .before
     let h = c .before .before .before .before .loop-test .taken in
     let E = now (S .args .edges) in
     let g : ℕ → ℕ = λ e. groupOf (dirIn (at E e)) in
-    let t : ℕ → ℕ = λ e. testOf (at E e) in
-    (omega (arith, h),
+    let t : ℕ → ℕ = λ e. testOf (at E e) in (
+      omega (arith, h),
       subst (λ (z : ℕ). Told E (bitOr (l .looks) z) (l .e + 1)) (sym (c .before .one-bit .ensures ∙ ap (λ (z : ℕ). 2 ^ z) (c .before .before .group-of .ensures .0)))
-      (gathered g stateLimit (l .e) (l .looks) (omega (arith, group-lt (dirIn (at E (l .e))))) (l .inv .1)),
-      subst (λ (z : ℕ). Tested E (bitOr (l .tested) z) (l .e + 1)) (sym (c .node-bit .ensures)) (gathered t nodeLimit (l .e) (l .tested) (S .pre .each (l .e) h .test-fits) (l .inv .2)))
+          (gathered g stateLimit (l .e) (l .looks) (omega (arith, group-lt (dirIn (at E (l .e))))) (l .inv .1)),
+      subst (λ (z : ℕ). Tested E (bitOr (l .tested) z) (l .e + 1)) (sym (c .node-bit .ensures)) (gathered t nodeLimit (l .e) (l .tested) (S .pre .each (l .e) h .test-fits) (l .inv .2)),
+    )
 
 -- src/filling.rt:91:1
 returns : tie.Need-returns Inv-loop μ-loop

@@ -56,10 +56,13 @@ loop-less c = let S = c .before .before .before .before .before .before .before 
 loop-again : tie.Need-loop-again Inv-loop μ-loop
 loop-again c = let S = c .before .before .before .before .before .before .before .before .before .before .before in
     let l = c .before .before .before .before .before .before .before .before .loop in
-    let t = c .before .before .before .before .turn in
-    (t .ensures .same ∙ l .inv .0, t .ensures .room ∙ l .inv .1, λ i h. t .ensures .fits (l .inv .2) i (omega (arith, t .ensures .same)),
+    let t = c .before .before .before .before .turn in (
+      t .ensures .same ∙ l .inv .0,
+      t .ensures .room ∙ l .inv .1,
+      λ i h. t .ensures .fits (l .inv .2) i (omega (arith, t .ensures .same)),
       clear-next (S .args .exits) (S .args .looks) (now (S .args .steps)) (l .masks) (l .todo) _ _ (l .j) (c .next-entry .result) (t .result) (t .ensures) (c .next-entry .ensures) (l .inv .3),
-      λ E words seeds f told F K. t .ensures .moves E words seeds f told F (l .inv .4 E words seeds f told F K))
+      λ E words seeds f told F K. t .ensures .moves E words seeds f told F (l .inv .4 E words seeds f told F K),
+    )
 
 -- src/spreading.rt:49:1
 same-length : tie.Need-same-length Inv-loop μ-loop
@@ -68,9 +71,11 @@ same-length c = c .before .loop .inv .0
 -- src/spreading.rt:49:1
 returns : tie.Need-returns Inv-loop μ-loop
 returns c = let S = c .before .before .before .before in
-    let l = c .before .loop in
-    (l .inv .0, λ E words seeds f told F K. rise-end (S .args .exits) (S .args .looks) (now (S .args .steps)) (l .masks) (l .todo) (l .j) (omega (arith, l .inv .0, c .loop-test .left)) (l .inv .3)
-    E words seeds f told F (l .inv .4 E words seeds f told F K))
+    let l = c .before .loop in (
+      l .inv .0,
+      λ E words seeds f told F K. rise-end (S .args .exits) (S .args .looks) (now (S .args .steps)) (l .masks) (l .todo) (l .j) (omega (arith, l .inv .0, c .loop-test .left)) (l .inv .3)
+          E words seeds f told F (l .inv .4 E words seeds f told F K),
+    )
 
 pub rise-spec : {M : Type 1} → statement M
 rise-spec =

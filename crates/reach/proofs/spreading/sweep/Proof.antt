@@ -46,10 +46,12 @@ loop-again c = let S = c .before .before .before .before .before .before .before
     let i = l .i - 1 in
     let h = c .before .before .before .before .loop-test .taken in
     let W = c .before .before .visit-entry .ensures in
-    let long = ap (λ (z : List ℕ). length z) (W .written) ∙ length-set (l .masks) i (W .new) in
-    (omega (arith, long, l .inv .0), long ∙ l .inv .1,
+    let long = ap (λ (z : List ℕ). length z) (W .written) ∙ length-set (l .masks) i (W .new) in (
+      omega (arith, long, l .inv .0),
+      long ∙ l .inv .1,
       sweep-next _ (now (S .args .steps)) (now (S .args .masks)) (l .masks) _ _ i refl refl (omega (arith, l .inv .0, h)) W
-      (subst (λ (z : ℕ). Moves (S .args .exits) (S .args .looks) (now (S .args .steps)) (now (S .args .masks)) (l .masks) allDue (sweptTo z)) (omega (arith, h)) (l .inv .2)))
+          (subst (λ (z : ℕ). Moves (S .args .exits) (S .args .looks) (now (S .args .steps)) (now (S .args .masks)) (l .masks) allDue (sweptTo z)) (omega (arith, h)) (l .inv .2)),
+    )
 
 -- src/spreading.rt:30:1
 same-length : tie.Need-same-length Inv-loop μ-loop

@@ -56,10 +56,11 @@ loop-again c = let S = c .before .before .before .before .before .before .before
     let p = S .args .place in
     let h = I .loop-test .taken in
     let r = c .before .before .add-edge .ensures in
-    let column-in : columnOf (at E (l .e)) < 48 = omega (arith, group-lt (dirIn (at E (l .e))), S .pre .0 .each (l .e) h .to-fits) in
-    (omega (arith, h),
+    let column-in : columnOf (at E (l .e)) < 48 = omega (arith, group-lt (dirIn (at E (l .e))), S .pre .0 .each (l .e) h .to-fits) in (
+      omega (arith, h),
       subst (Apart p (p + 48) (now (S .args .steps))) (sym r) (apart-set p (p + 48) _ (l .steps) (p + columnOf (at E (l .e))) _ (l .inv .1) (omega arith) (omega arith)),
-      held-next E (S .pre .0) (S .args .word) (l .e) h (l .steps) p (omega (arith, l .inv .1 .same, S .pre .1 .0)) (l .inv .2) _ r)
+      held-next E (S .pre .0) (S .args .word) (l .e) h (l .steps) p (omega (arith, l .inv .1 .same, S .pre .1 .0)) (l .inv .2) _ r,
+    )
 
 -- src/steps.rt:80:1
 same-length : tie.Need-same-length Inv-loop μ-loop

@@ -48,9 +48,11 @@ loop-less c = search needs
 -- src/steps.rt:73:5
 loop-again : tie.Need-loop-again Inv-loop μ-loop
 loop-again c = let l = c .before .loop in
-    let p = c .before .before .args .place in
-    (omega (arith, c .loop-test .taken), apart-set p (p + 48) _ (l .steps) (p + l .c) 0 (l .inv .1) (omega arith) (omega (arith, c .loop-test .taken)),
-      stored (λ d. p + d) (l .steps) (l .c) 0 (λ d x. x ≡ 0) (λ d e. omega arith) (omega (arith, l .inv .1 .same, c .before .before .pre, c .loop-test .taken)) refl (l .inv .2))
+    let p = c .before .before .args .place in (
+      omega (arith, c .loop-test .taken),
+      apart-set p (p + 48) _ (l .steps) (p + l .c) 0 (l .inv .1) (omega arith) (omega (arith, c .loop-test .taken)),
+      stored (λ d. p + d) (l .steps) (l .c) 0 (λ d x. x ≡ 0) (λ d e. omega arith) (omega (arith, l .inv .1 .same, c .before .before .pre, c .loop-test .taken)) refl (l .inv .2),
+    )
 
 -- src/steps.rt:67:1
 same-length : tie.Need-same-length Inv-loop μ-loop

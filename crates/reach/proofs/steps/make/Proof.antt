@@ -35,9 +35,10 @@ returns c = let S = c .before .before .before .before .before .before .before .b
     let J = c .before .before .join .ensures in
     let A = c .before .before .before .before .before .before .add-edges .ensures in
     let Z = c .before .before .before .before .before .before .before .before .before .before .clear .ensures in
-    let p = S .args .place in
-    (apart-then p (p + 48) (now (S .args .steps)) _ _ (apart-then p (p + 48) (now (S .args .steps)) _ _ (Z .0) (A .0)) (apart-wide p (p + stateLimit) (p + 48) _ _ (omega arith) (J .apart)),
-      columns-made (now (S .args .edges)) (S .pre .0) (S .args .word) _ _ p (A .1) J)
+    let p = S .args .place in (
+      apart-then p (p + 48) (now (S .args .steps)) _ _ (apart-then p (p + 48) (now (S .args .steps)) _ _ (Z .0) (A .0)) (apart-wide p (p + stateLimit) (p + 48) _ _ (omega arith) (J .apart)),
+      columns-made (now (S .args .edges)) (S .pre .0) (S .args .word) _ _ p (A .1) J,
+    )
 
 pub make-spec : {M : Type 1} → statement M
 make-spec =

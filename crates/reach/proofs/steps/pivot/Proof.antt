@@ -93,12 +93,13 @@ loop-again c = let S = c .before .before .before .before .before .before .before
     let p = S .args .place in
     let k = S .args .k in
     let rest = l .inv .1 .rest (l .u) (omega arith) in
-    let h = c .before .before .before .loop-test .taken in
-    (omega (arith, h),
+    let h = c .before .before .before .loop-test .taken in (
+      omega (arith, h),
       pivoted-next C p k (l .u) (l .steps) (c .joined .result) h (S .pre .1) (l .inv .1)
-      (c .joined .ensures ∙ ap (λ (b : Bool). pick b (bitOr (at (l .steps) (p + l .u)) (at C (p + k))) (at (l .steps) (p + l .u))) (c .before .has .ensures)
-      ∙ ap (λ (x : ℕ). pick (bit x k) (bitOr x (at C (p + k))) x) rest),
-      refl)
+          (c .joined .ensures ∙ ap (λ (b : Bool). pick b (bitOr (at (l .steps) (p + l .u)) (at C (p + k))) (at (l .steps) (p + l .u))) (c .before .has .ensures)
+          ∙ ap (λ (x : ℕ). pick (bit x k) (bitOr x (at C (p + k))) x) rest),
+      refl,
+    )
 
 -- src/steps.rt:143:1
 same-length : tie.Need-same-length Inv-loop μ-loop

@@ -69,10 +69,11 @@ loop-again : tie.Need-loop-again Inv-loop μ-loop
 loop-again c = let a = c .before .before .before .before .before .before .before .args in
     let l = c .before .before .before .before .loop in
     let k = c .before .before .before .before .before .before .shared-slice-known in
-    let x = at (now (a .steps)) (a .place + l .t) in
-    (omega (arith, c .before .before .before .loop-test .taken),
+    let x = at (now (a .steps)) (a .place + l .t) in (
+      omega (arith, c .before .before .before .loop-test .taken),
       pulled-next (now (a .steps)) (a .place) (a .mask) (l .t) (l .found) (c .joined .result) (omega (arith, k .given (a .place + l .t))) (l .inv .1)
-      (c .joined .ensures ∙ ap (λ (b : Bool). pick b (bitOr (l .found) x) (l .found)) (c .before .has .ensures)))
+          (c .joined .ensures ∙ ap (λ (b : Bool). pick b (bitOr (l .found) x) (l .found)) (c .before .has .ensures)),
+    )
 
 -- src/steps.rt:15:1
 returns-2 : tie.Need-returns-2 Inv-loop μ-loop
