@@ -1,0 +1,4 @@
+pub mod Firsts
+pub mod Single
+pub mod Places
+pub mod Answers
