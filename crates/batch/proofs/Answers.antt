@@ -60,6 +60,20 @@ module _ (given : Bool) (S : Sheet) (words ns verdicts held : List ℕ) (a : Bat
   unfolding batchOutcome
   ends = ap (λ (a : BatchAnswer). endsBy a S words ns verdicts held) is
 
+  pub number-is : batchOutcome given S words ns verdicts held .number ≡ a .number
+  number-is = sym (ap (λ (o : BatchOutcome). o .number) ends) ∙ go (a .number)
+    where
+      go : (q : ℕ) → by a q .number ≡ a .number
+      go zero = refl
+      go (suc q) = refl
+
+  pub log-is : batchOutcome given S words ns verdicts held .log ≡ a .log
+  log-is = sym (ap (λ (o : BatchOutcome). o .log) ends) ∙ go (a .number)
+    where
+      go : (q : ℕ) → by a q .log ≡ a .log
+      go zero = refl
+      go (suc q) = refl
+
   pub ends-refused : ¬ (a .number ≡ 0) → batchEnds a verdicts held ≡ batchOutcome given S words ns verdicts held
   ends-refused z = go (a .number) z ∙ ends
     where

@@ -1,5 +1,6 @@
 -- `first_misfit` meets its contract: what is found from log k on is what is found in the whole list. Assumes nothing.
-use Prim.Native.Nat.{_+_, _-_, _≤_}
+use Prim.Native.Nat.{suc, _+_, _-_, _≤_}
+use native.Mathlib.Numerals.{add-one}
 use native.Mathlib.Omega.{arith}
 use mathlib.Core.Path.{_≡_, refl, sym, _∙_}
 use mathlib.Core.Bool.{true}
@@ -47,7 +48,7 @@ returns : tie.Need-returns Inv-loop μ-loop
 returns c =
     let l = c .before .before .before .before .loop in
     let a = c .before .before .before .before .before .before .args in
-    misfit-log (a .words) (now (a .lengths)) (l .k)
+    add-one (l .k) ∙ misfit-log (a .words) (now (a .lengths)) (l .k)
     (l .inv .3 ∙ first-stop (fits (a .words)) (now (a .lengths)) (l .k) (l .at) (c .before .before .before .loop-test .taken) (sym (c .before .fits-here .ensures) ∙ not-true _ (c .if1 .taken)))
 
 add-at : tie.Need-add-at Inv-loop μ-loop
@@ -81,7 +82,8 @@ returns-2 c =
     let l = c .before .before .loop in
     let a = c .before .before .before .before .args in
     let end = c .before .loop-test .left in
-    misfit-left (a .words) (now (a .lengths)) (l .k) (all-fit (c .before)) (omega (arith, l .inv .0)) (omega (arith, c .if2 .taken, l .inv .2, total-all (now (a .lengths)) (l .k) end))
+    let last : l .k + 1 ≡ suc (length (now (a .lengths))) = omega (arith, l .inv .0) in
+    last ∙ misfit-left (a .words) (now (a .lengths)) (all-fit (c .before)) (omega (arith, c .if2 .taken, l .inv .2, total-all (now (a .lengths)) (l .k) end))
 
 returns-3 : tie.Need-returns-3 Inv-loop μ-loop
 returns-3 c =

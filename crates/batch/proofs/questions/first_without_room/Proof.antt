@@ -1,5 +1,6 @@
 -- `first_without_room` meets its contract: what is found from log k on is what is found in the whole list. Assumes nothing.
 use Prim.Native.Nat.{_+_, _-_, _≤_}
+use native.Mathlib.Numerals.{add-one}
 use native.Mathlib.Omega.{arith}
 use mathlib.Core.Path.{_≡_, refl, sym, _∙_}
 use mathlib.Core.Bool.{true}
@@ -50,7 +51,7 @@ returns : tie.Need-returns Inv-loop μ-loop
 returns c =
     let l = c .before .before .before .before .loop in
     let a = c .before .before .before .before .before .before .args in
-    sym (l .inv .2 ∙ first-stop (hasRoom (a .verdicts) (a .held)) (now (a .lengths)) (l .k) (l .at) (c .before .before .before .loop-test .taken) (sym (c .before .room-here .ensures) ∙ not-true _ (c .if1 .taken)))
+    add-one (l .k) ∙ sym (l .inv .2 ∙ first-stop (hasRoom (a .verdicts) (a .held)) (now (a .lengths)) (l .k) (l .at) (c .before .before .before .loop-test .taken) (sym (c .before .room-here .ensures) ∙ not-true _ (c .if1 .taken)))
 
 add-at : tie.Need-add-at Inv-loop μ-loop
 add-at c = omega (arith, within c, c .before .before .before .before .before .before .fits .verdicts)
