@@ -12,7 +12,7 @@ use Rattle.aldlf.specs.declared.Table.{Table}
 use Rattle.sheet.specs.Given.{wellFormed}
 use Rattle.batch.specs.declared.BatchAnswer.{BatchAnswer}
 use Rattle.batch.specs.Batch.{logsOf, total, wordsOf, countsOf, firstLog, fits, answerTo, BatchOutcome, batchEnds, verdictsAfter, heldAfter, batchOutcome}
-use Rattle.batch.proofs.Firsts.{Fits, fits-yes, all-pass, misfit-yes, fits-within}
+use Rattle.batch.proofs.Firsts.{fits-yes, all-pass, misfit-yes, fits-within}
 use Rattle.batch.proofs.Single.{words-long, whole-is}
 use Rattle.batch.proofs.Answers.{accepted, ends-judged, number-is}
 

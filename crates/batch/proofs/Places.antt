@@ -4,8 +4,8 @@ use native.Mathlib.Omega.{arith}
 use native.Mathlib.Numerals.{add-one}
 use mathlib.Core.Path.{_≡_, refl, sym, ap, ap₂, _∙_}
 use mathlib.Core.List.{List, [], _∷_, _++_, append-nil, append-assoc}
-use lib.ListN.{length, take, drop, set, getD, length-append, length-take, length-drop}
-use lib.Seq.{drop-cons, drop-drop, take-at, drop-at, drop-append-add, set-at, append-snoc, take-all, length-take-le}
+use lib.ListN.{length, take, drop, set, getD, length-append, length-drop}
+use lib.Seq.{drop-cons, drop-drop, take-at, drop-at, set-at, append-snoc, take-all, length-take-le}
 use Rattle.aldlf.specs.Sheet.{Sheet}
 use Rattle.aldlf.specs.Outcomes.{logWords, heldIn}
 use Rattle.batch.specs.Batch.{logsOf, total, wordsOf, countsOf, firstLog, fits, hasRoom, misfit, roomless, verdictsAfter, heldAfter}

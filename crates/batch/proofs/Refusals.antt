@@ -3,20 +3,19 @@ use Prim.Native.Nat.{ℕ, zero, suc, _+_, _-_, _≤_, _<_}
 use native.Mathlib.Omega.{arith}
 use mathlib.Core.Path.{_≡_, refl, sym, subst, ap, _∙_}
 use mathlib.Core.Logic.{_⊎_, inl, inr, _↔_}
-use mathlib.Core.Bool.{Bool, true, false, _&&_}
+use mathlib.Core.Bool.{Bool, true, false}
 use mathlib.Core.List.{List, [], _∷_}
-use lib.Dec.{leb, ltb}
 use lib.ListN.{length, take, getD}
 use borrow.Author.Tests.{lt-ltb, le-leb}
 use Rattle.aldlf.specs.Constants.{entryLimit}
-use Rattle.aldlf.specs.Sheet.{Sheet, sheetOf}
+use Rattle.aldlf.specs.Sheet.{sheetOf}
 use Rattle.aldlf.specs.declared.Table.{Table}
 use Rattle.aldlf.proofs.Bools.{and-intro, bool-cases, lt-or-le}
 use Rattle.sheet.specs.Given.{wellFormed}
 use Rattle.batch.specs.declared.BatchAnswer.{BatchAnswer}
-use Rattle.batch.specs.Batch.{listLimit, total, firstLog, fits, hasRoom, misfit, roomless, answerTo, BatchOutcome, batchOutcome}
-use Rattle.batch.specs.Right.{Accepts, AllPass, FirstNot, Right, no-table, no-log, left-over, no-room, all-judged}
-use Rattle.batch.proofs.Firsts.{Fits, fits-yes, room-yes, all-pass, none-found, first-not, total-next, total-all, misfit-log, misfit-left, misfit-none, misfit-yes, fits-within, room-within}
+use Rattle.batch.specs.Batch.{listLimit, total, firstLog, fits, hasRoom, misfit, roomless, answerTo, batchOutcome}
+use Rattle.batch.specs.Right.{Accepts, AllPass, Right, no-table, no-log, left-over, no-room, all-judged}
+use Rattle.batch.proofs.Firsts.{Fits, fits-yes, room-yes, all-pass, none-found, first-not, total-next, misfit-log, misfit-left, misfit-none, misfit-yes, fits-within, room-within}
 use Rattle.batch.proofs.Answers.{no-31, no-32, no-33, all-yes, accepted, number-is, log-is}
 
 -- The answer, case by case ----------------------------------------------------------------------------------------------------
@@ -66,11 +65,26 @@ answers-right t words lengths verdicts held =
     rw (number-is (wellFormed t) (sheetOf t) words lengths verdicts held a refl, log-is (wellFormed t) (sheetOf t) words lengths verdicts held a refl)
     (answer-right (wellFormed t) (length words) lengths (length verdicts) (length held))
 
--- Accepted ----------------------------------------------------------------------------------------------------------------------
-
 below : (n b : ℕ) → ((j : ℕ) → j < n → j < b) → n ≤ b
 below zero b f = omega arith
 below (suc n) b f = omega (arith, f n (omega arith))
+
+-- a refusal is about one of the first 65,536 logs
+pub log-small : (t : Table) (words lengths verdicts held : List ℕ) → batchOutcome (wellFormed t) (sheetOf t) words lengths verdicts held .log ≤ suc listLimit
+log-small t words lengths verdicts held = go (answers-right t words lengths verdicts held)
+  where
+    -- so many logs as pass question 32 are few
+    few : (k : ℕ) → ((j : ℕ) → j < k → fits (length words) j (total (take j lengths)) (getD lengths j 0) ≡ true) → k ≤ listLimit
+    few k f = below k listLimit (λ j h. fits-yes (length words) j (total (take j lengths)) (getD lengths j 0) (f j h) .early)
+
+    go : {number log : ℕ} → Right (wellFormed t) (length words) lengths (length verdicts) (length held) number log → log ≤ suc listLimit
+    go (no-table e) = omega arith
+    go (no-log {j} g f) = omega (arith, few j (f .before))
+    go (left-over g f l) = omega (arith, few (length lengths) f)
+    go (no-room {j} g f l r) = omega (arith, few (length lengths) f, r .in-list)
+    go (all-judged g f l r) = omega arith
+
+-- Accepted ----------------------------------------------------------------------------------------------------------------------
 
 total-le : (ns : List ℕ) (k : ℕ) → total (take k ns) ≤ total ns
 total-le [] zero = omega arith
