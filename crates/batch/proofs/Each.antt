@@ -5,12 +5,13 @@ use mathlib.Core.Path.{_≡_, refl, sym, ap, ap₂, _∙_}
 use mathlib.Core.Bool.{Bool, true}
 use mathlib.Core.List.{List, [], _∷_, _++_, append-assoc}
 use lib.ListN.{length, take, drop, getD, length-drop}
-use lib.Seq.{take-at, drop-append-add, length-take-le}
+use lib.Seq.{take-at, drop-append-add, drop-drop, length-take-le}
 use Rattle.aldlf.specs.Sheet.{Sheet, sheetOf}
 use Rattle.aldlf.specs.Outcomes.{Whole, logWords, heldIn, wholeOutcome}
 use Rattle.aldlf.specs.declared.Table.{Table}
 use Rattle.sheet.specs.Given.{wellFormed}
 use Rattle.batch.specs.declared.BatchAnswer.{BatchAnswer}
+use Rattle.batch.specs.Right.{logAt}
 use Rattle.batch.specs.Batch.{logsOf, total, wordsOf, countsOf, firstLog, fits, answerTo, BatchOutcome, batchEnds, verdictsAfter, heldAfter, batchOutcome}
 use Rattle.batch.proofs.Firsts.{fits-yes, all-pass, misfit-yes, fits-within}
 use Rattle.batch.proofs.Single.{words-long, whole-is}
@@ -18,11 +19,17 @@ use Rattle.batch.proofs.Answers.{accepted, ends-judged, number-is}
 
 -- The logs by their places ----------------------------------------------------------------------------------------------------
 
-abbrev logAt : (words ns : List ℕ) → ℕ → List ℕ
-logAt words ns j = getD (logsOf words ns) j []
+abbrev listed : (words ns : List ℕ) → ℕ → List ℕ
+listed words ns j = getD (logsOf words ns) j []
+
+-- a log of the list stands at its place
+log-at : (words ns : List ℕ) (j : ℕ) → j < length ns → listed words ns j ≡ logAt words ns j
+log-at words [] j h = absurd (omega arith)
+log-at words (n ∷ ns) zero h = refl
+log-at words (n ∷ ns) (suc j) h = log-at (drop n words) ns j (omega arith) ∙ ap (take (getD ns j 0)) (drop-drop (total (take j ns)) n words)
 
 -- log j has as many entries as its length says
-log-size : (words ns : List ℕ) → total ns ≤ length words → (j : ℕ) → j < length ns → length (logAt words ns j) ≡ getD ns j 0
+log-size : (words ns : List ℕ) → total ns ≤ length words → (j : ℕ) → j < length ns → length (listed words ns j) ≡ getD ns j 0
 log-size words [] f j h = absurd (omega arith)
 log-size words (n ∷ ns) f zero h = length-take-le n words (omega arith)
 log-size words (n ∷ ns) f (suc j) h = log-size (drop n words) ns (omega (arith, length-drop n words)) j (omega arith)
@@ -71,18 +78,18 @@ module _ (given : Bool) (S : Sheet) (words ns verdicts held : List ℕ) (z : bat
   ends-so = sym (ends-judged given S words ns verdicts held answer refl (sym (number-is given S words ns verdicts held answer refl) ∙ z) _ _ refl refl)
 
   module _ (j : ℕ) (h : j < length ns) (buffer : List ℕ) (room : getD ns j 0 ≤ length buffer) where
-    size : length (logAt words ns j) ≡ getD ns j 0
+    size : length (listed words ns j) ≡ getD ns j 0
     size = log-size words ns (omega (arith, yes-all .2)) j h
 
-    pub alone : wholeOutcome given S (logAt words ns j) buffer ≡ record {
+    alone : wholeOutcome given S (listed words ns j) buffer ≡ record {
       number = 0;
       held = getD (batchOutcome given S words ns verdicts held .held) j 0;
       buffer = take (getD ns j 0) (drop (total (take j ns)) (batchOutcome given S words ns verdicts held .verdicts)) ++ drop (getD ns j 0) buffer;
     }
     alone =
         let fit = fits-yes (length words) j (total (take j ns)) (getD ns j 0) (all-pass (fits (length words)) ns (yes-all .1) j h) in
-        whole-is given S (logAt words ns j) buffer (yes-all .0) (omega (arith, size, fit .some)) (omega (arith, size, fit .few)) (omega (arith, size))
-        ∙ ap₂ (λ (c : ℕ) (l : List ℕ). judged c (l ++ drop (length (logAt words ns j)) buffer))
+        whole-is given S (listed words ns j) buffer (yes-all .0) (omega (arith, size, fit .some)) (omega (arith, size, fit .few)) (omega (arith, size))
+        ∙ ap₂ (λ (c : ℕ) (l : List ℕ). judged c (l ++ drop (length (listed words ns j)) buffer))
         (sym (ap (λ (o : BatchOutcome). getD (o .held) j 0) ends-so ∙ count-at S words ns (drop (length ns) held) j h))
         (sym (ap (λ (o : BatchOutcome). take (getD ns j 0) (drop (total (take j ns)) (o .verdicts))) ends-so ∙ words-at S words ns (drop (length words) verdicts) (omega (arith, yes-all .2)) j h))
         ∙ ap (λ (n : ℕ). judged (getD (batchOutcome given S words ns verdicts held .held) j 0) (take (getD ns j 0) (drop (total (take j ns)) (batchOutcome given S words ns verdicts held .verdicts)) ++ drop n buffer)) size
@@ -91,11 +98,13 @@ module _ (given : Bool) (S : Sheet) (words ns verdicts held : List ℕ) (z : bat
 pub each-judged : (t : Table) (words lengths verdicts held : List ℕ)
     → batchOutcome (wellFormed t) (sheetOf t) words lengths verdicts held .number ≡ 0
     → (j : ℕ) → j < length lengths → (buffer : List ℕ) → getD lengths j 0 ≤ length buffer
-    → wholeOutcome (wellFormed t) (sheetOf t) (getD (logsOf words lengths) j []) buffer ≡ record {
+    → wholeOutcome (wellFormed t) (sheetOf t) (logAt words lengths j) buffer ≡ record {
       number = 0;
       held = getD (batchOutcome (wellFormed t) (sheetOf t) words lengths verdicts held .held) j 0;
       buffer =
           take (getD lengths j 0) (drop (total (take j lengths)) (batchOutcome (wellFormed t) (sheetOf t) words lengths verdicts held .verdicts))
           ++ drop (getD lengths j 0) buffer;
     }
-each-judged t words lengths verdicts held z j h buffer room = alone (wellFormed t) (sheetOf t) words lengths verdicts held z j h buffer room
+each-judged t words lengths verdicts held z j h buffer room =
+    ap (λ (log : List ℕ). wholeOutcome (wellFormed t) (sheetOf t) log buffer) (sym (log-at words lengths j h))
+    ∙ alone (wellFormed t) (sheetOf t) words lengths verdicts held z j h buffer room

@@ -8,17 +8,14 @@ use lib.ListN.{length, take, drop, set, getD, length-append, length-drop}
 use lib.Seq.{drop-cons, drop-drop, take-at, drop-at, set-at, append-snoc, take-all, length-take-le}
 use Rattle.aldlf.specs.Sheet.{Sheet}
 use Rattle.aldlf.specs.Outcomes.{logWords, heldIn}
+use Rattle.batch.specs.Right.{logAt}
 use Rattle.batch.specs.Batch.{logsOf, total, wordsOf, countsOf, firstLog, fits, hasRoom, misfit, roomless, verdictsAfter, heldAfter}
 use Rattle.batch.proofs.Firsts.{Fits, fits-yes, room-yes, first-yes, total-next, total-all, misfit-yes}
 use Rattle.batch.proofs.Single.{words-long}
 
 -- One log more --------------------------------------------------------------------------------------------------------------
 
--- log k: as many words as its length says, after those of the logs before it
-abbrev cutAt : (words ns : List ℕ) → ℕ → List ℕ
-cutAt words ns k = take (getD ns k 0) (drop (total (take k ns)) words)
-
-logs-next : (words ns : List ℕ) (k : ℕ) → k < length ns → logsOf words (take (suc k) ns) ≡ logsOf words (take k ns) ++ (cutAt words ns k ∷ [])
+logs-next : (words ns : List ℕ) (k : ℕ) → k < length ns → logsOf words (take (suc k) ns) ≡ logsOf words (take k ns) ++ (logAt words ns k ∷ [])
 logs-next words [] k h = absurd (omega arith)
 logs-next words (n ∷ ns) zero h = refl
 logs-next words (n ∷ ns) (suc k) h =
@@ -116,7 +113,7 @@ module _ (S : Sheet) (words ns lent lentHeld verdicts held : List ℕ) (at k : �
     size : m ≡ getD ns k 0
     size = omega arith
 
-    here : take m (drop at words) ≡ cutAt words ns k
+    here : take m (drop at words) ≡ logAt words ns k
     here = ap₂ (λ (a b : ℕ). take a (drop b words)) size (J .place)
 
     pub log-long : length (take m (drop at words)) ≡ getD ns k 0
@@ -127,12 +124,12 @@ module _ (S : Sheet) (words ns lent lentHeld verdicts held : List ℕ) (at k : �
 
     words-next : wordsOf S (logsOf words (take (k + 1) ns)) ≡ wordsOf S (logsOf words (take k ns)) ++ logWords S (take m (drop at words))
     words-next =
-        ap (λ (j : ℕ). wordsOf S (logsOf words (take j ns))) (add-one k) ∙ ap (wordsOf S) (logs-next words ns k h) ∙ words-snoc S (logsOf words (take k ns)) (cutAt words ns k)
+        ap (λ (j : ℕ). wordsOf S (logsOf words (take j ns))) (add-one k) ∙ ap (wordsOf S) (logs-next words ns k h) ∙ words-snoc S (logsOf words (take k ns)) (logAt words ns k)
         ∙ ap (λ (l : List ℕ). wordsOf S (logsOf words (take k ns)) ++ logWords S l) (sym here)
 
     counts-next : countsOf S (logsOf words (take (k + 1) ns)) ≡ countsOf S (logsOf words (take k ns)) ++ (heldIn S (take m (drop at words)) ∷ [])
     counts-next =
-        ap (λ (j : ℕ). countsOf S (logsOf words (take j ns))) (add-one k) ∙ ap (countsOf S) (logs-next words ns k h) ∙ counts-snoc S (logsOf words (take k ns)) (cutAt words ns k)
+        ap (λ (j : ℕ). countsOf S (logsOf words (take j ns))) (add-one k) ∙ ap (countsOf S) (logs-next words ns k h) ∙ counts-snoc S (logsOf words (take k ns)) (logAt words ns k)
         ∙ ap (λ (l : List ℕ). countsOf S (logsOf words (take k ns)) ++ (heldIn S l ∷ [])) (sym here)
 
     pub next : (new : List ℕ) (x : ℕ) → new ≡ logWords S (take m (drop at words)) → x ≡ heldIn S (take m (drop at words))

@@ -1,11 +1,15 @@
--- When a list of logs is accepted, and what each refusal says, in words of the list itself.
+-- What the theorems say of a list of logs: log j, when the list is accepted, and what each refusal means.
 use Prim.Native.Nat.{ℕ, suc, _≤_, _<_}
 use mathlib.Core.Path.{_≡_}
 use mathlib.Core.Bool.{Bool, true, false}
 use mathlib.Core.List.{List}
-use lib.ListN.{length, take, getD}
+use lib.ListN.{length, take, drop, getD}
 use Rattle.aldlf.specs.Constants.{entryLimit}
 use Rattle.batch.specs.Batch.{listLimit, total, fits, hasRoom}
+
+-- Log j of the list: as many words as its length says, after those of the logs before it.
+abbrev pub logAt : (words lengths : List ℕ) → ℕ → List ℕ
+logAt words lengths j = take (getD lengths j 0) (drop (total (take j lengths)) words)
 
 -- The table is some sheet's, every log fits, no word is left over, and the buffers have room.
 pub record Accepts (given : Bool) (words lengths verdicts held : List ℕ) : Type 0 where
