@@ -17,7 +17,8 @@ code-requires c κs =
     let a = c .before .before .before .before .before .before .before .before .before .before .before .before .before .args in
     let t = c .before .before .before .before .before .before .before .table-of in
     let j = c .before .before .before .before .judge-logs in
-    (log-number (t .result) (now (a .words)) (now (a .lengths)) (now (a .verdicts)) (now (a .held)) _ _ (j .result) (j .ensures), omega arith)
+    let small = log-number (t .result) (now (a .words)) (now (a .lengths)) (now (a .verdicts)) (now (a .held)) _ _ (j .result) (j .ensures) in
+    (omega arith, omega arith)
 
 same-length : tie.Need-same-length
 same-length c = search needs
