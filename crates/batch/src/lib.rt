@@ -1,4 +1,5 @@
-// Judging a list of logs of one sheet in one call. Question 31 is asked once, and every question before the first log is judged.
+// Judging a list of logs of one sheet in one call. Every question is asked before the first log is judged. That each log is judged
+// as by itself is the theorem `each-judged` of proofs/Each.antt.
 mod logs;
 mod questions;
 

@@ -36,7 +36,8 @@ pub(crate) fn judge_each(
     }
 }
 
-// One log that all questions are answered of: its verdict words, and the count of entries at which the rule holds.
+// One log that all questions are answered of: its verdict words, and the count of entries at which the rule holds. `judge` asks
+// them again and refuses none.
 fn judge_one(table: Table, log: &[u32], verdicts: &mut [u64]) -> usize
     requires { ⌜ wellFormed table ≡ true ⌝ }
     requires { ⌜ (1 ≤ length (now log)) × (length (now log) ≤ entryLimit) ⌝ }

@@ -1,15 +1,14 @@
 // What is printed of an outcome.
 use batch::BatchAnswer;
 
-// A refusal's number and log; nothing of it where the list was judged.
+// Whether the list was judged, or the number of a refusal; and the log.
 pub(crate) fn answer(a: BatchAnswer) {
     if a.number == 0 {
-        put(b" judged, log");
-        number(a.log as u64);
-        return;
+        put(b" judged");
+    } else {
+        put(b" refused");
+        number(a.number as u64);
     }
-    put(b" refused");
-    number(a.number as u64);
     put(b", log");
     number(a.log as u64);
 }
