@@ -1,7 +1,8 @@
 /* Rozsvelen: a proved rule checker for job logs. Link with libexports.a (`rt staticlib exports`).
  *
  * Every function answers one number. Its low 16 bits are a count or length, the next 16 the number of the question that got a no
- * (0: accepted), and its upper 32 bits the line that the question is about (from 1; 0 for questions not about a line).
+ * (0: accepted), and its upper 32 bits the line that the question is about (from 1; 0 for questions not about a line),
+ * or the log where a list of logs is judged.
  * A refusal alters nothing that was lent. The questions and their numbers are those of the rule sheet's description, and three of the
  * boundary's own:
  *   35  a table or row to be written has its fixed length. Asked first.
@@ -47,6 +48,14 @@ uint64_t rozsvelen_read_log(const uint8_t *text, size_t text_len, uint32_t *word
 /* Judges a whole log: one word per entry, bit k for node k, in the first places of verdicts; counts the entries at which the rule,
  * the last node, holds. Questions 31, 32, 33. Stack: 16 KB. */
 uint64_t rozsvelen_judge(const uint16_t *table, size_t table_len, const uint32_t *log, size_t log_len, uint64_t *verdicts, size_t verdicts_len);
+
+/* Judges a list of logs of one sheet. Their words stand one after the other; lengths says how many entries each log has. The verdict words
+ * stand likewise in the first places of verdicts, and each log's count of entries at which the rule holds in those of held. Question 31;
+ * 32 of each log in turn: it is among the first 65,535, has 1 to ROZSVELEN_ENTRIES entries, and they are among the words; words left over are
+ * about the log after the last; 33 of each log in turn: it has room in verdicts and in held. A refusal's line is the log, from 1 (31: 0).
+ * A list of no logs and no words is accepted. Stack: 16 KB. */
+uint64_t rozsvelen_judge_logs(const uint16_t *table, size_t table_len, const uint32_t *words, size_t words_len, const uint16_t *lengths,
+                              size_t lengths_len, uint64_t *verdicts, size_t verdicts_len, uint16_t *held, size_t held_len);
 
 /* Puts the plain row, which the first part of a run gets, into a row of ROZSVELEN_ROW numbers. Questions 35, 31. Stack: 8 KB. */
 uint64_t rozsvelen_plain_row(const uint16_t *table, size_t table_len, uint16_t *row, size_t row_len);

@@ -21,7 +21,7 @@ static void check(const char *name, int holds) {
 enum { LAST = ROZSVELEN_ENTRIES - 1, SHOWN = 9 };
 static char rules[4096], steps[4096];
 static uint16_t table[ROZSVELEN_TABLE], only_ahead[ROZSVELEN_TABLE], only_back[ROZSVELEN_TABLE];
-static uint16_t row[ROZSVELEN_ROW], edges[ROZSVELEN_WALK];
+static uint16_t row[ROZSVELEN_ROW], edges[ROZSVELEN_WALK], held[2];
 static uint32_t words[ROZSVELEN_ENTRIES];
 static uint64_t verdicts[ROZSVELEN_ENTRIES];
 static uint8_t page[ROZSVELEN_PAGE];
@@ -44,6 +44,10 @@ static const uint8_t *text(const char *s) { return (const uint8_t *)s; }
 static void read_sheet(void) { answer = rozsvelen_read_sheet(text(rules), strlen(rules), table, ROZSVELEN_TABLE); }
 static void read_log(void) { answer = rozsvelen_read_log(text(steps), strlen(steps), words, ROZSVELEN_ENTRIES); }
 static void judge(void) { answer = rozsvelen_judge(table, ROZSVELEN_TABLE, words, ROZSVELEN_ENTRIES, verdicts, ROZSVELEN_ENTRIES); }
+static void judge_logs(void) {
+    static const uint16_t halves[] = { ROZSVELEN_ENTRIES / 2, ROZSVELEN_ENTRIES / 2 };
+    answer = rozsvelen_judge_logs(table, ROZSVELEN_TABLE, words, ROZSVELEN_ENTRIES, halves, 2, verdicts, ROZSVELEN_ENTRIES, held, 2);
+}
 static void plain_row(void) { answer = rozsvelen_plain_row(table, ROZSVELEN_TABLE, row, ROZSVELEN_ROW); }
 static void walk(void) { answer = rozsvelen_walk(table, ROZSVELEN_TABLE, words, ROZSVELEN_ENTRIES, SHOWN, 0, edges, ROZSVELEN_WALK); }
 static void judge_part(const uint16_t *sheet, uint32_t way) {
@@ -92,6 +96,8 @@ static uint64_t refused(uint64_t number) { return number << 16; }
 static void empty_slices(void) {
     enum { T = ROZSVELEN_TABLE, R = ROZSVELEN_ROW, N = ROZSVELEN_ENTRIES };
     const uint8_t *sheet = text("T\n"), *log = text("-\n");
+    const uint16_t one = 1;
+    const uint64_t first = (uint64_t)1 << 32;
     check("read_sheet of no text", rozsvelen_read_sheet(NULL, 0, only_ahead, T) == refused(2));
     check("read_sheet into no table", rozsvelen_read_sheet(sheet, 2, NULL, 0) == refused(35));
     check("read_log of no text", rozsvelen_read_log(NULL, 0, words, N) == refused(22));
@@ -99,6 +105,11 @@ static void empty_slices(void) {
     check("judge with no table", rozsvelen_judge(NULL, 0, words, N, verdicts, N) == refused(31));
     check("judge of no entry", rozsvelen_judge(table, T, NULL, 0, verdicts, N) == refused(32));
     check("judge into no verdicts", rozsvelen_judge(table, T, words, N, NULL, 0) == refused(33));
+    check("judge_logs with no table", rozsvelen_judge_logs(NULL, 0, NULL, 0, NULL, 0, NULL, 0, NULL, 0) == refused(31));
+    check("judge_logs of no logs", rozsvelen_judge_logs(table, T, NULL, 0, NULL, 0, NULL, 0, NULL, 0) == 0);
+    check("judge_logs of words and no logs", rozsvelen_judge_logs(table, T, words, 1, NULL, 0, verdicts, 1, held, 1) == refused(32) + first);
+    check("judge_logs into no verdicts", rozsvelen_judge_logs(table, T, words, 1, &one, 1, NULL, 0, held, 1) == refused(33) + first);
+    check("judge_logs into no counts", rozsvelen_judge_logs(table, T, words, 1, &one, 1, verdicts, 1, NULL, 0) == refused(33) + first);
     check("plain_row with no table", rozsvelen_plain_row(NULL, 0, row, R) == refused(31));
     check("plain_row into no row", rozsvelen_plain_row(table, T, NULL, 0) == refused(35));
     check("judge_part with no table", rozsvelen_judge_part(NULL, 0, 1, row, R, words, N, verdicts, N) == refused(31));
@@ -121,6 +132,7 @@ int main(void) {
     takes("read_sheet", read_sheet, 0, 16);
     takes("read_log", read_log, ROZSVELEN_ENTRIES, 1);
     takes("judge", judge, ROZSVELEN_ENTRIES, 16);
+    takes("judge_logs", judge_logs, 0, 16);
     takes("plain_row", plain_row, 0, 8);
     rozsvelen_read_sheet(text(ahead), sizeof ahead - 1, only_ahead, ROZSVELEN_TABLE);
     rozsvelen_read_sheet(text(back), sizeof back - 1, only_back, ROZSVELEN_TABLE);

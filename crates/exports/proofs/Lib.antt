@@ -1,6 +1,7 @@
 pub mod Sheets
 pub mod Logs
 pub mod Judging
+pub mod Lists
 pub mod Capped
 pub mod Walks
 pub mod Pages

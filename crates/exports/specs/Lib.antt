@@ -1,4 +1,5 @@
 pub mod Answers
 pub mod Judging
+pub mod Lists
 pub mod Showing
 pub mod Runs

@@ -18,6 +18,7 @@ ghost use mathlib.Core.Path.{_≡_};
 ghost use Prim.Native.Nat.{min};
 ghost use Rattle.exports.specs.Answers.{outcome, sheetOutcome, logOutcome};
 ghost use Rattle.exports.specs.Judging.{partEnds, judgeOutcome, plainOutcome, judgePartOutcome, isWay, wayOf};
+ghost use Rattle.exports.specs.Lists.{listEnds, judgeLogsOutcome};
 ghost use Rattle.exports.specs.Showing.{walkShown, pagePrinted};
 
 // The boundary's own question: a lent table or row has its fixed length.
@@ -66,6 +67,23 @@ pub extern "C" fn rozsvelen_judge(table: &[u16], log: &[u32], verdicts: &mut [u6
         Judged::Held(n) => code(0, 0, n),
         Judged::Refused(q) => code(q, 0, 0),
     }
+}
+
+// Judges a list of logs of one sheet, whose words stand one after the other: the verdict words likewise, and each log's count of
+// entries at which the rule holds. A refusal's line is the log that it is about, from 1; it alters nothing.
+#[no_mangle]
+pub extern "C" fn rozsvelen_judge_logs(
+    table: &[u16],
+    words: &[u32],
+    lengths: &[u16],
+    verdicts: &mut [u64],
+    held: &mut [u16],
+) -> u64
+    ensures { λ r. ⌜ listEnds r (now (verdicts .exit)) (now (held .exit)) ≡ judgeLogsOutcome (now (table .entry)) (now (words .entry)) (now (lengths .entry)) (now (verdicts .entry)) (now (held .entry)) ⌝ }
+{
+    let t = table_of(table);
+    let a = batch::judge_logs(t, words, lengths, verdicts, held);
+    code(a.number, a.log, 0)
 }
 
 // Puts the plain row, from which a run starts, into a row. A refusal alters nothing.

@@ -1,0 +1,51 @@
+-- One log that all questions are answered of: judging it accepts, with the log's own words and count.
+use Prim.Native.Nat.{ℕ, zero, suc, _≤_}
+use native.Mathlib.Omega.{arith}
+use mathlib.Core.Path.{_≡_, refl, sym, ap, _∙_}
+use mathlib.Core.Bool.{Bool, true, false, true≢false}
+use mathlib.Core.List.{List, _++_, append-nil}
+use lib.Dec.{eqb}
+use lib.ListN.{length, drop, drop-of-length-le}
+use borrow.Author.Tests.{le-leb, eq-eqb}
+use Rattle.aldlf.specs.Constants.{entryLimit}
+use Rattle.aldlf.specs.Sheet.{Sheet}
+use Rattle.aldlf.specs.Outcomes.{Whole, partWords, logWords, heldIn, countBelow, one, wholeNumber, wholeOutcome}
+use Rattle.aldlf.proofs.Packing.{length-tabulate}
+use Rattle.judge.specs.declared.Judged.{Judged}
+use Rattle.judge.specs.declared.Judged.the-variants.{Held, Refused}
+use Rattle.judge.specs.Answers.{wholeOf, isHeld}
+use Rattle.judge.proofs.OutcomeLaws.{whole-accepted}
+
+pub words-long : (S : Sheet) (log : List ℕ) → length (logWords S log) ≡ length log
+unfolding partWords
+words-long S log = length-tabulate (length log) _
+
+-- the rule holds at no more entries than there are
+pub held-few : (S : Sheet) (log : List ℕ) → heldIn S log ≤ length log
+unfolding heldIn
+held-few S log = go (length log) _
+  where
+    one-le : (b : Bool) → one b ≤ 1
+    one-le true = omega arith
+    one-le false = omega arith
+
+    go : (n : ℕ) (p : ℕ → Bool) → countBelow n p ≤ n
+    go zero p = omega arith
+    go (suc n) p = omega (arith, one-le (p n), go n p)
+
+module _ (given : Bool) (S : Sheet) (log buffer : List ℕ) (yes : given ≡ true) (some : 1 ≤ length log) (few : length log ≤ entryLimit) (room : length log ≤ length buffer) where
+  pub number-0 : wholeNumber given log buffer ≡ 0
+  unfolding wholeNumber
+  number-0 = rw (yes, le-leb 1 (length log) some, le-leb (length log) entryLimit few, le-leb (length log) (length buffer) room)
+
+  pub whole-is : wholeOutcome given S log buffer ≡ record { number = 0; held = heldIn S log; buffer = logWords S log ++ drop (length log) buffer }
+  whole-is = sym (whole-accepted given S log buffer (heldIn S log) (logWords S log ++ drop (length log) buffer) number-0 refl refl)
+
+  module _ (after : List ℕ) (r : Judged) (is : wholeOf r after ≡ wholeOutcome given S log buffer) (held : isHeld r ≡ eqb (wholeNumber given log buffer) 0) where
+    pub one-held : length buffer ≤ length log → (n : ℕ) → r ≡ Held n → (after ≡ logWords S log) × (n ≡ heldIn S log)
+    one-held all n e =
+        let w : wholeOf (Held n) after ≡ record { number = 0; held = heldIn S log; buffer = logWords S log ++ drop (length log) buffer } = ap (λ (x : Judged). wholeOf x after) (sym e) ∙ is ∙ whole-is in
+        (ap (λ (x : Whole). x .buffer) w ∙ ap (λ (l : List ℕ). logWords S log ++ l) (drop-of-length-le buffer all) ∙ append-nil (logWords S log), ap (λ (x : Whole). x .held) w)
+
+    pub never-refused : (q : ℕ) → r ≡ Refused q → ⊥
+    never-refused q e = true≢false (sym (eq-eqb (wholeNumber given log buffer) 0 number-0) ∙ sym held ∙ ap isHeld e)

@@ -1,0 +1,39 @@
+// Judging a list of logs of one sheet in one call. Every question is asked before the first log is judged. That each log is judged
+// as by itself is the theorem `each-judged` of proofs/Each.antt.
+mod logs;
+mod questions;
+
+use aldlf::Table;
+use logs::judge_each;
+use questions::asked;
+ghost use mathlib.Core.Path.{_≡_};
+ghost use Rattle.aldlf.specs.Sheet.{sheetOf};
+ghost use Rattle.sheet.specs.Given.{wellFormed};
+ghost use Rattle.batch.specs.Batch.{batchEnds, batchOutcome};
+
+// What judging a list answers. Number 0: every log is judged. Else the number of the first question that gets a no (31, 32, 33),
+// and which log it is about, counted from 1 (0: about no log).
+pub struct BatchAnswer {
+    pub number: u8,
+    pub log: usize,
+}
+
+// Judges logs whose words stand one after the other, log j's as many as `lengths[j]`: the verdict words likewise in the first
+// places of `verdicts`, each log's count held in those of `held`; the rest keep their content. A refusal alters nothing.
+pub fn judge_logs(
+    table: Table,
+    words: &[u32],
+    lengths: &[u16],
+    verdicts: &mut [u64],
+    held: &mut [u16],
+) -> BatchAnswer
+    ensures { λ r. ⌜ batchEnds r (now (verdicts .exit)) (now (held .exit)) ≡ batchOutcome (wellFormed table) (sheetOf table) (now (words .entry)) (now (lengths .entry)) (now (verdicts .entry)) (now (held .entry)) ⌝ }
+{
+    let n = words.len();
+    let a = asked(table, n, lengths, verdicts.len(), held.len());
+    if a.number != 0 {
+        return a;
+    }
+    judge_each(table, words, lengths, verdicts, held);
+    a
+}
