@@ -1,17 +1,46 @@
 //! Judging by a queue of configurations: from the goals backward along the edges.
-use super::{each_node, Automaton, TABLE};
+use super::given::given;
+use super::{automaton, node, Automaton, Node, TABLE};
 
 pub fn judge(t: &[u16; TABLE], log: &[u32], verdicts: &mut [u64]) -> Option<usize> {
+    if !given(t) || log.is_empty() || log.len() > 512 || verdicts.len() < log.len() {
+        return None;
+    }
     let mut marks = vec![0u16; log.len()];
     let mut queue = Vec::with_capacity(16 * log.len());
-    each_node(t, log, verdicts, |k, x, m, words| {
+    let words = &mut verdicts[..log.len()];
+    words.fill(0);
+    let nodes = t[1312] as usize;
+    for k in 0..nodes {
+        let x = node(t, k);
+        if x.letter != b'D' && x.letter != b'B' {
+            plain_node(x, k, log, words);
+            continue;
+        }
+        let m = automaton(t, x.a as usize);
         let some = x.letter == b'D';
         seed(&m, (x.b, some), words, &mut marks, &mut queue);
         spread(&m, words, &mut marks, &mut queue);
         for (w, mark) in words.iter_mut().zip(&marks) {
             *w |= (((mark >> m.start & 1 == 1) == some) as u64) << k;
         }
-    })
+    }
+    Some(words.iter().filter(|w| **w >> (nodes - 1) & 1 == 1).count())
+}
+
+/// A node that is no D or B, at every entry.
+fn plain_node(x: Node, k: usize, log: &[u32], words: &mut [u64]) {
+    for (w, facts) in words.iter_mut().zip(log) {
+        let holds = match x.letter {
+            b'T' => true,
+            b'F' => false,
+            b'P' => facts >> x.a & 1 == 1,
+            b'N' => *w >> x.a & 1 == 0,
+            b'A' => *w >> x.a & *w >> x.b & 1 == 1,
+            _ => (*w >> x.a | *w >> x.b) & 1 == 1,
+        };
+        *w |= (holds as u64) << k;
+    }
 }
 
 /// The accepting states where the node is as wanted.
