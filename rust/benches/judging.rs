@@ -34,45 +34,39 @@ fn judging(name: &str, text: &str, log: &[u32]) {
     row(name, proved, &[("columns", by_columns), ("steps", by_steps), ("queue", by_queue)]);
 }
 
-/// A thousand logs of five entries; the figures are for one of them.
-fn short() {
+/// A thousand logs of five entries one by one; the figures are for one of them.
+fn short_by_itself() {
     let sheet = Sheet::read(Z.as_bytes()).unwrap();
     let table = sheet.numbers();
-    let (words, lengths) = (short_logs(), [5u16; 1000]);
-    let [mut a, mut b, mut c, mut d] = [0, 1, 2, 3].map(|_| vec![0u64; 5000]);
-    let mut one = |log: usize| rozsvelen::judge(&sheet, black_box(&words[5 * log..5 * log + 5]), &mut a[5 * log..]).ok();
-    let mut by_columns = |log: usize| columns::judge(table, black_box(&words[5 * log..5 * log + 5]), &mut b[5 * log..]);
-    let mut by_steps = |log: usize| steps::judge(table, black_box(&words[5 * log..5 * log + 5]), &mut c[5 * log..]);
-    let mut by_queue = |log: usize| queue::judge(table, black_box(&words[5 * log..5 * log + 5]), &mut d[5 * log..]);
-    let held: Vec<_> = (0..1000).map(&mut one).collect();
-    for log in 0..1000 {
-        assert_eq!([by_columns(log), by_steps(log), by_queue(log)], [held[log]; 3], "log {log}: the versions' counts differ");
-    }
-    let [proved, by_columns, by_steps, by_queue] = time(
-        10,
-        [
-            &mut work(|| (0..1000).map(&mut one).for_each(drop)),
-            &mut work(|| (0..1000).map(&mut by_columns).for_each(drop)),
-            &mut work(|| (0..1000).map(&mut by_steps).for_each(drop)),
-            &mut work(|| (0..1000).map(&mut by_queue).for_each(drop)),
-        ],
-    )
-    .map(|us| us / 1000.0);
-    row("a log of five entries, sheet Z, by itself", proved, &[("columns", by_columns), ("steps", by_steps), ("queue", by_queue)]);
+    let words = short_logs();
+    let [mut a, mut b, mut c, mut d] = [0; 4].map(|_| vec![0u64; words.len()]);
+    let all = |verdicts: &mut [u64], judge: &mut dyn FnMut(&[u32], &mut [u64]) -> Option<usize>| -> Option<usize> {
+        words.chunks(5).zip(verdicts.chunks_mut(5)).map(|(log, verdicts)| judge(black_box(log), verdicts)).sum()
+    };
+    let mut proved = || all(&mut a, &mut |log, verdicts| rozsvelen::judge(&sheet, log, verdicts).ok());
+    let mut by_columns = || all(&mut b, &mut |log, verdicts| columns::judge(table, log, verdicts));
+    let mut by_steps = || all(&mut c, &mut |log, verdicts| steps::judge(table, log, verdicts));
+    let mut by_queue = || all(&mut d, &mut |log, verdicts| queue::judge(table, log, verdicts));
+    assert_eq!([by_columns(), by_steps(), by_queue()], [proved(); 3], "short logs: the versions' counts differ");
+    let times = time(10, [&mut work(proved), &mut work(by_columns), &mut work(by_steps), &mut work(by_queue)]);
+    let [proved, by_columns, by_steps, by_queue] = times.map(|us| us / 1000.0);
     assert!(a == b && a == c && a == d, "short logs: the versions' verdicts differ");
+    row("a log of five entries, sheet Z, by itself", proved, &[("columns", by_columns), ("steps", by_steps), ("queue", by_queue)]);
+}
 
-    let [mut k, mut l, mut m] = [[0u16; 1000]; 3];
-    let [proved, by_columns, by_steps] = time(
-        10,
-        [
-            &mut work(|| rozsvelen::judge_logs(&sheet, black_box(&words), &lengths, &mut a, &mut k)),
-            &mut work(|| columns::logs(table, black_box(&words), &lengths, &mut b, &mut l)),
-            &mut work(|| steps::logs(table, black_box(&words), &lengths, &mut c, &mut m)),
-        ],
-    )
-    .map(|us| us / 1000.0);
-    assert!(a == b && a == c && a == d, "short logs in one call: the versions' verdicts differ");
-    assert!(k == l && k == m && k.iter().zip(&held).all(|(x, y)| Some(*x as usize) == *y), "short logs in one call: the versions' counts differ");
+/// The same logs in one call; the figures are for one of them.
+fn short_in_one_call() {
+    let sheet = Sheet::read(Z.as_bytes()).unwrap();
+    let table = sheet.numbers();
+    let (words, lengths) = (short_logs(), [5; 1000]);
+    let [mut a, mut b, mut c] = [0; 3].map(|_| (vec![0u64; words.len()], vec![0u16; lengths.len()]));
+    let mut proved = || rozsvelen::judge_logs(&sheet, black_box(&words), &lengths, &mut a.0, &mut a.1).ok();
+    let mut by_columns = || columns::logs(table, black_box(&words), &lengths, &mut b.0, &mut b.1);
+    let mut by_steps = || steps::logs(table, black_box(&words), &lengths, &mut c.0, &mut c.1);
+    assert_eq!([proved(), by_columns(), by_steps()], [Some(()); 3], "short logs in one call: not all versions accept them");
+    let times = time(10, [&mut work(proved), &mut work(by_columns), &mut work(by_steps)]);
+    let [proved, by_columns, by_steps] = times.map(|us| us / 1000.0);
+    assert!(a == b && a == c, "short logs in one call: the versions' verdicts or counts differ");
     row("a log of five entries, sheet Z, 1,000 in one call", proved, &[("columns", by_columns), ("steps", by_steps)]);
 }
 
@@ -115,7 +109,8 @@ fn main() {
     case("16 automata of 16 edges, 3 nodes each", many());
     case("zigzag", zigzag());
     case("snake", snake());
-    short();
+    short_by_itself();
+    short_in_one_call();
     parts();
     let (zigzag_text, zigzag_log) = zigzag();
     walking("walk on five entries, sheet Z", (Z, &[1, 2, 4, 1, 4]), 8, 1000);

@@ -38,6 +38,20 @@ pub fn automaton(t: &[u16; TABLE], m: usize) -> Automaton<'_> {
     Automaton { states: x[0] as usize, start: x[1] as usize, accepting: x[2], edges: &t[first..first + 4 * x[4] as usize] }
 }
 
+/// A node that is no D or B, at every entry: one loop for each letter.
+#[inline(always)]
+pub fn plain_node(x: Node, k: usize, log: &[u32], words: &mut [u64]) {
+    let (a, b) = (x.a & 63, x.b & 63);
+    match x.letter {
+        b'T' => words.iter_mut().for_each(|w| *w |= 1 << k),
+        b'F' => (),
+        b'P' => words.iter_mut().zip(log).for_each(|(w, facts)| *w |= ((facts >> (a & 31) & 1) as u64) << k),
+        b'N' => words.iter_mut().for_each(|w| *w |= (!*w >> a & 1) << k),
+        b'A' => words.iter_mut().for_each(|w| *w |= (*w >> a & *w >> b & 1) << k),
+        _ => words.iter_mut().for_each(|w| *w |= ((*w >> a | *w >> b) & 1) << k),
+    }
+}
+
 /// Question 34, of a table that some sheet gives. All edges are looked at: an early exit would keep it at one edge a turn.
 pub fn looks_only(t: &[u16; TABLE], ahead: bool) -> bool {
     let wrong = if ahead { 2 } else { 1 };

@@ -1,6 +1,6 @@
 //! Judging by a queue of configurations: from the goals backward along the edges.
 use super::given::given;
-use super::{automaton, node, Automaton, Node, TABLE};
+use super::{automaton, node, plain_node, Automaton, TABLE};
 
 pub fn judge(t: &[u16; TABLE], log: &[u32], verdicts: &mut [u64]) -> Option<usize> {
     if !given(t) || log.is_empty() || log.len() > 512 || verdicts.len() < log.len() {
@@ -26,21 +26,6 @@ pub fn judge(t: &[u16; TABLE], log: &[u32], verdicts: &mut [u64]) -> Option<usiz
         }
     }
     Some(words.iter().filter(|w| **w >> (nodes - 1) & 1 == 1).count())
-}
-
-/// A node that is no D or B, at every entry.
-fn plain_node(x: Node, k: usize, log: &[u32], words: &mut [u64]) {
-    for (w, facts) in words.iter_mut().zip(log) {
-        let holds = match x.letter {
-            b'T' => true,
-            b'F' => false,
-            b'P' => facts >> x.a & 1 == 1,
-            b'N' => *w >> x.a & 1 == 0,
-            b'A' => *w >> x.a & *w >> x.b & 1 == 1,
-            _ => (*w >> x.a | *w >> x.b) & 1 == 1,
-        };
-        *w |= (holds as u64) << k;
-    }
 }
 
 /// The accepting states where the node is as wanted.

@@ -1,7 +1,7 @@
 //! Judging by step masks: a mask of states for each entry. For each automaton and each *kind* of entry (entries alike on the tested nodes) the edges
 //! become once two matrices of 16 masks, test edges closed in beforehand; then marking an entry from those beside it is a matrix times a mask.
 use super::given::given;
-use super::{automaton, filled, logs_fit, looks_only, node, room, Automaton, Row, TABLE};
+use super::{automaton, filled, logs_fit, looks_only, node, plain_node, room, Automaton, Row, TABLE};
 use std::arch::x86_64::{_mm_and_si128, _mm_cmpeq_epi16, _mm_loadu_si128, _mm_movemask_epi8, _mm_packs_epi16, _mm_set1_epi16, _mm_setzero_si128};
 use std::mem::MaybeUninit;
 
@@ -195,31 +195,24 @@ fn judge_given(t: &[u16; TABLE], log: &[u32], verdicts: &mut [u64], row: Option<
     words.fill(0);
     for k in 0..nodes {
         let x = node(t, k);
-        let (a, b) = (x.a & 63, x.b & 63);
-        match x.letter {
-            b'D' | b'B' => {
-                let m = automaton(t, x.a as usize);
-                if known.automaton != x.a as usize {
-                    known.learn(x.a as usize, &m, words);
-                }
-                let some = x.letter == b'D';
-                let all = ((1u32 << m.states) - 1) as u16;
-                let exits = row.map_or(0, |(r, _)| if some { r[k] } else { !r[k] } & all);
-                mark(&known, (b, some), exits, words, masks);
-                for (w, mask) in words.iter_mut().zip(masks.iter()) {
-                    *w |= ((*mask as u64 >> (m.start & 15) & 1) ^ !some as u64) << k;
-                }
-                if let Some((_, ahead)) = row {
-                    let end = if ahead { masks.first() } else { masks.last() }.map_or(exits, |mask| *mask);
-                    next[k] = if some { end } else { !end & all };
-                }
-            }
-            b'T' => words.iter_mut().for_each(|w| *w |= 1 << k),
-            b'F' => (),
-            b'P' => words.iter_mut().zip(log).for_each(|(w, facts)| *w |= ((facts >> (a & 31) & 1) as u64) << k),
-            b'N' => words.iter_mut().for_each(|w| *w |= (!*w >> a & 1) << k),
-            b'A' => words.iter_mut().for_each(|w| *w |= (*w >> a & *w >> b & 1) << k),
-            _ => words.iter_mut().for_each(|w| *w |= ((*w >> a | *w >> b) & 1) << k),
+        if x.letter != b'D' && x.letter != b'B' {
+            plain_node(x, k, log, words);
+            continue;
+        }
+        let m = automaton(t, x.a as usize);
+        if known.automaton != x.a as usize {
+            known.learn(x.a as usize, &m, words);
+        }
+        let some = x.letter == b'D';
+        let all = ((1u32 << m.states) - 1) as u16;
+        let exits = row.map_or(0, |(r, _)| if some { r[k] } else { !r[k] } & all);
+        mark(&known, (x.b, some), exits, words, masks);
+        for (w, mask) in words.iter_mut().zip(masks.iter()) {
+            *w |= ((*mask as u64 >> (m.start & 15) & 1) ^ !some as u64) << k;
+        }
+        if let Some((_, ahead)) = row {
+            let end = if ahead { masks.first() } else { masks.last() }.map_or(exits, |mask| *mask);
+            next[k] = if some { end } else { !end & all };
         }
     }
     (words.iter().map(|w| (w >> (nodes - 1) & 1) as usize).sum(), next)
