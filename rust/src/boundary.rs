@@ -24,6 +24,24 @@ pub fn judge(table: &[u16; TABLE], log: &[u32], verdicts: &mut [u64]) -> Result<
     answer(unsafe { rozsvelen_judge(table.as_ptr(), table.len(), log.as_ptr(), log.len(), verdicts.as_mut_ptr(), verdicts.len()) })
 }
 
+pub fn judge_logs(table: &[u16; TABLE], words: &[u32], lengths: &[u16], verdicts: &mut [u64], held: &mut [u16]) -> Result<(), Refused> {
+    answer(unsafe {
+        rozsvelen_judge_logs(
+            table.as_ptr(),
+            table.len(),
+            words.as_ptr(),
+            words.len(),
+            lengths.as_ptr(),
+            lengths.len(),
+            verdicts.as_mut_ptr(),
+            verdicts.len(),
+            held.as_mut_ptr(),
+            held.len(),
+        )
+    })?;
+    Ok(())
+}
+
 pub fn plain_row(table: &[u16; TABLE]) -> Result<[u16; ROW], Refused> {
     let mut row = [0; ROW];
     answer(unsafe { rozsvelen_plain_row(table.as_ptr(), table.len(), row.as_mut_ptr(), row.len()) })?;

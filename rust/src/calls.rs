@@ -3,6 +3,18 @@ extern "C" {
     pub fn rozsvelen_read_sheet(text: *const u8, text_len: usize, table: *mut u16, table_len: usize) -> u64;
     pub fn rozsvelen_read_log(text: *const u8, text_len: usize, words: *mut u32, words_len: usize) -> u64;
     pub fn rozsvelen_judge(table: *const u16, table_len: usize, log: *const u32, log_len: usize, verdicts: *mut u64, verdicts_len: usize) -> u64;
+    pub fn rozsvelen_judge_logs(
+        table: *const u16,
+        table_len: usize,
+        words: *const u32,
+        words_len: usize,
+        lengths: *const u16,
+        lengths_len: usize,
+        verdicts: *mut u64,
+        verdicts_len: usize,
+        held: *mut u16,
+        held_len: usize,
+    ) -> u64;
     pub fn rozsvelen_plain_row(table: *const u16, table_len: usize, row: *mut u16, row_len: usize) -> u64;
     pub fn rozsvelen_judge_part(
         table: *const u16,

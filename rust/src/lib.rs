@@ -37,7 +37,8 @@ pub const WALK: usize = 8191;
 /// A buffer of so many bytes takes every page.
 pub const PAGE: usize = 40_000;
 
-/// A refusal: the number of the first question that got a no, and the line it is about (from 1; 0 for questions not about a line).
+/// A refusal: the number of the first question that got a no, and the line it is about (from 1; 0 for questions not about a line). Where many
+/// logs are judged in one call (`judge_logs`), the number of the log stands in the line's place.
 #[derive(Clone, Copy, Debug, PartialEq, Eq)]
 pub struct Refused {
     /// The question's number.
@@ -162,6 +163,29 @@ pub fn read_log(text: &[u8], words: &mut [u32]) -> Result<usize, Refused> {
 /// ```
 pub fn judge(sheet: &Sheet, log: &[u32], verdicts: &mut [u64]) -> Result<usize, Refused> {
     boundary::judge(&sheet.table, log, verdicts)
+}
+
+/// Judges many logs of one sheet in one call, which asks once whether some sheet gives the table. `words` has the logs' entries one after the
+/// other, `lengths` how many entries each log has. The verdict words of all logs take the first places of `verdicts` in the same order, and
+/// the counts of entries at which the rule holds the first places of `held`, one for each log.
+///
+/// A refusal alters nothing; its `line` is the number of the log it is about, counted from 1, or 0 where it is about none. 32 is about the first
+/// log that is not among the first 65,535, has not 1 to 512 entries, or lacks words; where words are left over, about the log after the last.
+///
+/// ```
+/// use rozsvelen::{judge_logs, Refused, Sheet};
+/// // the rule, node 1: there is a next entry
+/// let sheet = Sheet::read(b"T\nM,2,0\nG,1\nE,0,1,0,1\nD,0,0\n").unwrap();
+/// let (mut verdicts, mut held) = ([9; 5], [9; 3]);
+/// assert_eq!(judge_logs(&sheet, &[0; 4], &[3, 1], &mut verdicts, &mut held), Ok(()));
+/// assert_eq!(verdicts, [0b11, 0b11, 0b01, 0b01, 9]);
+/// assert_eq!(held, [2, 0, 9]);
+/// assert_eq!(judge_logs(&sheet, &[0; 4], &[3, 2], &mut verdicts, &mut held), Err(Refused { number: 32, line: 2 }));
+/// assert_eq!(judge_logs(&sheet, &[0; 4], &[3], &mut verdicts, &mut held), Err(Refused { number: 32, line: 2 }));
+/// assert_eq!(judge_logs(&sheet, &[], &[], &mut [], &mut []), Ok(()));
+/// ```
+pub fn judge_logs(sheet: &Sheet, words: &[u32], lengths: &[u16], verdicts: &mut [u64], held: &mut [u16]) -> Result<(), Refused> {
+    boundary::judge_logs(&sheet.table, words, lengths, verdicts, held)
 }
 
 /// The row at the end of a log (looking back, at its start): the first part of a run gets it. All bits of a B are set, all of a D clear.

@@ -26,6 +26,23 @@ fn judge(table: &[u16], log: &[u32], verdicts: &mut [u64]) -> u64 {
     unsafe { rozsvelen_judge(table.as_ptr(), table.len(), log.as_ptr(), log.len(), verdicts.as_mut_ptr(), verdicts.len()) }
 }
 
+fn judge_logs(table: &[u16], words: &[u32], lengths: &[u16], verdicts: &mut [u64], held: &mut [u16]) -> u64 {
+    unsafe {
+        rozsvelen_judge_logs(
+            table.as_ptr(),
+            table.len(),
+            words.as_ptr(),
+            words.len(),
+            lengths.as_ptr(),
+            lengths.len(),
+            verdicts.as_mut_ptr(),
+            verdicts.len(),
+            held.as_mut_ptr(),
+            held.len(),
+        )
+    }
+}
+
 fn plain_row(table: &[u16], row: &mut [u16]) -> u64 {
     unsafe { rozsvelen_plain_row(table.as_ptr(), table.len(), row.as_mut_ptr(), row.len()) }
 }
@@ -96,6 +113,19 @@ fn numbers_that_are_no_tables_are_31() {
         assert_eq!(walk(numbers, &[2], 2, 0, &mut edges), refusal(31, 0));
         assert_eq!((row, verdicts, edges), ([7; ROW], [9; 2], [5; 3]));
     }
+}
+
+#[test]
+fn many_logs_are_asked_31_then_32_then_33() {
+    let (mut verdicts, mut held) = ([9; 3], [7; 2]);
+    assert_eq!(judge_logs(&table()[1..], &[2], &[0], &mut [], &mut held), refusal(31, 0), "31 comes before 32");
+    assert_eq!(judge_logs(&[], &[], &[], &mut [], &mut []), refusal(31, 0), "31 is asked where there is no log");
+    assert_eq!(judge_logs(&table(), &[2], &[1, 0], &mut [], &mut held), refusal(32, 2), "32 comes before 33");
+    assert_eq!(judge_logs(&table(), &[2, 0], &[1, 1], &mut verdicts[..1], &mut held), refusal(33, 0));
+    assert_eq!(judge_logs(&table(), &[2, 0], &[1, 1], &mut verdicts, &mut held[..1]), refusal(33, 0));
+    assert_eq!((verdicts, held), ([9; 3], [7; 2]));
+    assert_eq!(judge_logs(&table(), &[2, 0], &[1, 1], &mut verdicts, &mut held), 0);
+    assert_eq!((verdicts, held), ([0b111, 0b001, 9], [1, 0]));
 }
 
 #[test]

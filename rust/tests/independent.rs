@@ -12,6 +12,7 @@ mod limits;
 use checker::meaning::Judged;
 use checker::sheets;
 use compare::judging::{compare_judging, compare_plain_row};
+use compare::lists::{compare_logs, Logs};
 use compare::pages::compare_page;
 use compare::parts::{compare_part, compare_run, Part};
 use compare::texts::{compare_log, compare_sheet};
@@ -202,13 +203,47 @@ fn run_of(random: &mut Random, kinds: &mut Kinds, entries: &[usize]) {
     compare_run(kinds, &table, ahead, &parts);
 }
 
+/// Many logs of one sheet in one call; the table, the lengths, the words and the places lent may each be other than they should.
+fn logs_case(random: &mut Random, kinds: &mut Kinds) {
+    let read = *Table::of(&sheet(random, Looks::Both)).ours.numbers();
+    let numbers = if random.one_in(4) { perhaps_damaged_table(random, read) } else { read };
+    let table = Table::from_numbers(numbers);
+    let mut lengths: Vec<u16> = (0..random.below(7)).map(|_| 1 + random.below(6) as u16).collect();
+    if random.one_in(100) {
+        lengths.push(512);
+    }
+    let words = log(random, lengths.iter().map(|n| *n as usize).sum());
+    if random.one_in(4) {
+        change_lengths(random, &mut lengths);
+    }
+    let rooms = [room_beside(random, words.len()), room_beside(random, lengths.len())];
+    let accepted = compare_logs(kinds, &table, &Logs { words: &words, lengths: &lengths, rooms });
+    kinds.saw_if(accepted && numbers != read, "judge_logs: changed table that some sheet gives");
+}
+
+/// A log more, a log less, or one of another length.
+fn change_lengths(random: &mut Random, lengths: &mut Vec<u16>) {
+    let length = *random.pick(&[0, 1, 2, 3, 512, 513, u16::MAX]);
+    let at = random.below(lengths.len() + 1);
+    match random.below(3) {
+        0 if at < lengths.len() => lengths[at] = length,
+        1 if at < lengths.len() => {
+            lengths.remove(at);
+        }
+        _ => lengths.insert(at, length),
+    }
+}
+
 fn main() {
     let from = |name: &str, default: u64| std::env::var(name).ok().and_then(|v| v.parse().ok()).unwrap_or(default);
     let (cases, seed) = (from("ROZSVELEN_CASES", 200_000), from("ROZSVELEN_SEED", 1));
     let mut random = Random(seed);
+    // lists of logs have numbers of their own, so that the other cases are the same with them and without them
+    let mut random_logs = Random(!seed);
     let mut kinds = Kinds::default();
     limits::texts(&mut kinds);
     limits::longest_walk(&mut kinds);
+    limits::most_logs(&mut kinds);
     for case in 0..cases {
         if case % 1000 == 0 {
             largest_case(&mut random, &mut kinds);
@@ -225,6 +260,9 @@ fn main() {
             _ => long_case,
         };
         one(&mut random, &mut kinds);
+        if case % 9 == 8 {
+            logs_case(&mut random_logs, &mut kinds);
+        }
     }
     print!("{kinds}");
     let never = kinds.never_tried();

@@ -3,10 +3,11 @@ use std::collections::BTreeMap;
 use std::fmt;
 
 /// Every call and the numbers by which it refuses; for the page, the numbers that stand on it.
-const REFUSALS: [(&str, &[u8]); 8] = [
+const REFUSALS: [(&str, &[u8]); 9] = [
     ("read_sheet", &[1, 2, 3, 4, 5, 6, 7, 8, 9, 10, 11]),
     ("read_log", &[21, 22, 23, 24, 25, 26, 27]),
     ("judge", &[31, 32, 33]),
+    ("judge_logs", &[31, 32, 33]),
     ("plain_row", &[31]),
     ("judge_part", &[31, 34, 32, 33]),
     ("walk", &[31, 32, 36, 37, 38, 39, 40]),
@@ -14,7 +15,7 @@ const REFUSALS: [(&str, &[u8]); 8] = [
     ("page_in", &[44]),
 ];
 
-const OTHERS: [&str; 46] = [
+const OTHERS: [&str; 63] = [
     "read_sheet: read",
     "read_sheet: cut short within a line",
     "read_sheet: a byte above 127",
@@ -35,6 +36,23 @@ const OTHERS: [&str; 46] = [
     "judge: D fails",
     "judge: B holds",
     "judge: B fails",
+    "judge_logs: no log",
+    "judge_logs: one log",
+    "judge_logs: several logs",
+    "judge_logs: 65535 logs",
+    "judge_logs: log of 512 entries",
+    "judge_logs: more than 512 entries in all",
+    "judge_logs: places beyond the verdicts kept",
+    "judge_logs: places beyond the counts kept",
+    "judge_logs: changed table that some sheet gives",
+    "judge_logs: 32 of a log without entries",
+    "judge_logs: 32 of more than 512 entries",
+    "judge_logs: 32 of entries that are not there",
+    "judge_logs: 32 of words left over",
+    "judge_logs: 32 of a log after the first",
+    "judge_logs: 32 of log 65536",
+    "judge_logs: 33 of the verdicts",
+    "judge_logs: 33 of the counts",
     "plain_row: given",
     "judge_part: ahead",
     "judge_part: back",

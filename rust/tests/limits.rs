@@ -1,5 +1,6 @@
-//! Sheets, logs, pages and walks at the limits.
+//! Sheets, logs, lists of logs, pages and walks at the limits.
 use crate::compare::judging::compare_judging;
+use crate::compare::lists::{compare_logs, Logs};
 use crate::compare::pages::compare_page;
 use crate::compare::texts::{compare_log, compare_sheet};
 use crate::compare::walks::compare_walk;
@@ -74,5 +75,14 @@ pub fn longest_walk(kinds: &mut Kinds) {
     }
     for room in [1024, 20_000, PAGE - 1, PAGE] {
         compare_page(kinds, text.as_bytes(), log_text(&words).as_bytes(), room);
+    }
+}
+
+/// As many logs as may be judged in one call, and one more.
+pub fn most_logs(kinds: &mut Kinds) {
+    let table = Table::of("T\nP,1\nM,1,0\nG,0\nE,0,1,0,0\nD,0,1\n");
+    for logs in [65_535, 65_536] {
+        let (words, lengths) = ((0..logs as u32).collect::<Vec<_>>(), vec![1; logs]);
+        compare_logs(kinds, &table, &Logs { words: &words, lengths: &lengths, rooms: [logs, logs] });
     }
 }

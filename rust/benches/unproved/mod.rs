@@ -1,11 +1,16 @@
-//! Two unproved versions of judging written for speed, and an unproved reader and walk, to compare the proved library with.
-//! All take the table's numbers and check them in the same way as the library does (question 31), so that the same work is timed.
-pub mod masks;
+//! Unproved versions of the library's jobs, written for speed, to compare the proved library with. All take the table's numbers and ask the same
+//! questions as the library does, so that the same work is timed.
+pub mod columns;
+pub mod given;
 pub mod queue;
-pub mod reading;
+pub mod readers;
+pub mod steps;
 pub mod walks;
 
+use std::mem::MaybeUninit;
+
 pub const TABLE: usize = 1315;
+pub type Row = [u16; 64];
 
 #[derive(Clone, Copy)]
 pub struct Node {
@@ -19,6 +24,7 @@ pub struct Automaton<'a> {
     pub states: usize,
     pub start: usize,
     pub accepting: u16,
+    /// Four numbers each: from, direction, node tested, to.
     pub edges: &'a [u16],
 }
 
@@ -32,88 +38,45 @@ pub fn automaton(t: &[u16; TABLE], m: usize) -> Automaton<'_> {
     Automaton { states: x[0] as usize, start: x[1] as usize, accepting: x[2], edges: &t[first..first + 4 * x[4] as usize] }
 }
 
-/// Whether some sheet gives the table.
-pub fn given(t: &[u16; TABLE]) -> bool {
-    let [nodes, automata, edges] = [t[1312] as usize, t[1313] as usize, t[1314] as usize];
-    if nodes == 0 || nodes > 64 || automata > 16 || edges > 256 {
-        return false;
+/// A node that is no D or B, at every entry: one loop for each letter.
+#[inline(always)]
+pub fn plain_node(x: Node, k: usize, log: &[u32], words: &mut [u64]) {
+    let (a, b) = (x.a & 63, x.b & 63);
+    match x.letter {
+        b'T' => words.iter_mut().for_each(|w| *w |= 1 << k),
+        b'F' => (),
+        b'P' => words.iter_mut().zip(log).for_each(|(w, facts)| *w |= ((facts >> (a & 31) & 1) as u64) << k),
+        b'N' => words.iter_mut().for_each(|w| *w |= (!*w >> a & 1) << k),
+        b'A' => words.iter_mut().for_each(|w| *w |= (*w >> a & *w >> b & 1) << k),
+        _ => words.iter_mut().for_each(|w| *w |= ((*w >> a | *w >> b) & 1) << k),
     }
-    let mut plain = 0u64;
-    for k in 0..nodes {
-        let [letter, a, b] = [t[3 * k], t[3 * k + 1], t[3 * k + 2]];
-        let (a, b) = (a as usize, b as usize);
-        let (fits, is_plain) = match letter as u8 {
-            _ if letter > 255 => (false, false),
-            b'T' | b'F' => (a == 0 && b == 0, true),
-            b'P' => (a < 32 && b == 0, true),
-            b'N' => (a < k && b == 0, plain >> (a & 63) & 1 == 1),
-            b'A' | b'O' => (a < k && b < k, plain >> (a & 63) & plain >> (b & 63) & 1 == 1),
-            b'D' | b'B' => (a < automata && t[192 + 6 * a + 5] as usize <= k && b < k, false),
-            _ => (false, false),
-        };
-        if !fits {
-            return false;
-        }
-        plain |= (is_plain as u64) << k;
-    }
-    let (mut first, mut above) = (0, 0);
-    for m in 0..automata {
-        let x = &t[192 + 6 * m..198 + 6 * m];
-        let states = x[0] as usize;
-        let fits = (1..=16).contains(&states) && (x[1] as usize) < states && (x[2] as u32) < 1 << states && x[3] as usize == first;
-        if !fits || first + x[4] as usize > edges || (x[5] as usize) < above || x[5] as usize >= nodes {
-            return false;
-        }
-        let mut touched = 0u32;
-        for e in first..first + x[4] as usize {
-            let e = &t[288 + 4 * e..292 + 4 * e];
-            let fits = (e[0] as usize) < states && e[1] < 3 && e[2] < x[5] && (e[3] as usize) < states;
-            if !fits || (e[1] > 0 && plain >> e[2] & 1 == 0) {
-                return false;
-            }
-            touched |= 1 << e[0] | 1 << e[3];
-        }
-        if touched != (1 << states) - 1 {
-            return false;
-        }
-        first += x[4] as usize;
-        above = x[5] as usize;
-    }
-    first == edges
-        && t[3 * nodes..192].iter().all(|n| *n == 0)
-        && t[192 + 6 * automata..288].iter().all(|n| *n == 0)
-        && t[288 + 4 * edges..1312].iter().all(|n| *n == 0)
 }
 
-/// Judges all nodes in order, the D and B ones by `modal`, and counts the entries at which the last one holds.
-pub fn each_node(t: &[u16; TABLE], log: &[u32], verdicts: &mut [u64], mut modal: impl FnMut(usize, Node, Automaton, &mut [u64])) -> Option<usize> {
-    if !given(t) {
-        return None;
-    }
-    let words = &mut verdicts[..log.len()];
-    words.fill(0);
-    let nodes = t[1312] as usize;
-    for k in 0..nodes {
-        let x = node(t, k);
-        match x.letter {
-            b'D' | b'B' => modal(k, x, automaton(t, x.a as usize), words),
-            _ => plain_node(x, k, log, words),
-        }
-    }
-    Some(words.iter().filter(|w| **w >> (nodes - 1) & 1 == 1).count())
+/// Question 34, of a table that some sheet gives. All edges are looked at: an early exit would keep it at one edge a turn.
+pub fn looks_only(t: &[u16; TABLE], ahead: bool) -> bool {
+    let wrong = if ahead { 2 } else { 1 };
+    t[288..288 + 4 * t[1314] as usize].chunks_exact(4).fold(true, |fits, e| fits & (e[1] != wrong))
 }
 
-/// A node that is no D or B, at every entry.
-fn plain_node(x: Node, k: usize, log: &[u32], words: &mut [u64]) {
-    for (w, facts) in words.iter_mut().zip(log) {
-        let holds = match x.letter {
-            b'T' => true,
-            b'F' => false,
-            b'P' => facts >> x.a & 1 == 1,
-            b'N' => *w >> x.a & 1 == 0,
-            b'A' => *w >> x.a & *w >> x.b & 1 == 1,
-            _ => (*w >> x.a | *w >> x.b) & 1 == 1,
-        };
-        *w |= (holds as u64) << k;
+/// Question 32 of a list of logs.
+pub fn logs_fit(words: &[u32], lengths: &[u16]) -> bool {
+    let all: usize = lengths.iter().map(|n| *n as usize).sum();
+    lengths.len() < 65_536 && lengths.iter().fold(true, |fit, n| fit & (1..=512).contains(n)) && all == words.len()
+}
+
+/// Room that is not cleared.
+#[inline(always)]
+pub fn room<T, const N: usize>() -> [MaybeUninit<T>; N] {
+    // an array of places without content has no content to be wrong; written as `[MaybeUninit::uninit(); N]` it would be cleared
+    unsafe { MaybeUninit::<[MaybeUninit<T>; N]>::uninit().assume_init() }
+}
+
+/// Places that hold this.
+#[inline(always)]
+pub fn filled<T: Copy>(places: &mut [MaybeUninit<T>], with: T) -> &mut [T] {
+    for place in places.iter_mut() {
+        place.write(with);
     }
+    // every place was written
+    unsafe { &mut *(places as *mut [MaybeUninit<T>] as *mut [T]) }
 }

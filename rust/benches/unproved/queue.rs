@@ -1,17 +1,31 @@
 //! Judging by a queue of configurations: from the goals backward along the edges.
-use super::{each_node, Automaton, TABLE};
+use super::given::given;
+use super::{automaton, node, plain_node, Automaton, TABLE};
 
 pub fn judge(t: &[u16; TABLE], log: &[u32], verdicts: &mut [u64]) -> Option<usize> {
+    if !given(t) || log.is_empty() || log.len() > 512 || verdicts.len() < log.len() {
+        return None;
+    }
     let mut marks = vec![0u16; log.len()];
     let mut queue = Vec::with_capacity(16 * log.len());
-    each_node(t, log, verdicts, |k, x, m, words| {
+    let words = &mut verdicts[..log.len()];
+    words.fill(0);
+    let nodes = t[1312] as usize;
+    for k in 0..nodes {
+        let x = node(t, k);
+        if x.letter != b'D' && x.letter != b'B' {
+            plain_node(x, k, log, words);
+            continue;
+        }
+        let m = automaton(t, x.a as usize);
         let some = x.letter == b'D';
         seed(&m, (x.b, some), words, &mut marks, &mut queue);
         spread(&m, words, &mut marks, &mut queue);
         for (w, mark) in words.iter_mut().zip(&marks) {
             *w |= (((mark >> m.start & 1 == 1) == some) as u64) << k;
         }
-    })
+    }
+    Some(words.iter().filter(|w| **w >> (nodes - 1) & 1 == 1).count())
 }
 
 /// The accepting states where the node is as wanted.

@@ -1,58 +1,137 @@
-//! The shortest walk with the lowest edges: distances backward from the goals, then the lowest edge that comes one nearer.
-use super::{automaton, masks, node, TABLE};
+//! The shortest walk with the lowest edges: only the nodes that the asked one stands on are judged; then breadth first backward over the edges that
+//! enter a state until the start is met, and forward by the lowest edge that comes one nearer.
+use super::columns::Judging;
+use super::given::given;
+use super::{automaton, filled, node, room, TABLE};
+use std::mem::MaybeUninit;
 
 pub fn walk(t: &[u16; TABLE], log: &[u32], k: usize, i: usize, edges: &mut [u16]) -> Option<usize> {
-    let mut words = [0u64; 512];
-    masks::judge(t, log, &mut words)?;
+    let n = log.len();
+    if !given(t) || n == 0 || n > 512 || k >= t[1312] as usize || i >= n || ![b'D', b'B'].contains(&node(t, k).letter) {
+        return None;
+    }
+    if n <= 64 {
+        search::<1>(t, log, k, i, edges)
+    } else {
+        search::<8>(t, log, k, i, edges)
+    }
+}
+
+/// The nodes that a line names, those that its automaton's edges test among them.
+fn named(t: &[u16; TABLE], k: usize) -> u64 {
     let x = node(t, k);
-    let m = automaton(t, x.a as usize);
-    let first = t[192 + 6 * x.a as usize + 3];
-    let (q, n) = (m.states, log.len());
-    let mut distance = vec![u16::MAX; q * n];
-    let mut queue = Vec::with_capacity(q * n);
-    for j in 0..n {
-        for s in (0..q).filter(|s| m.accepting >> s & 1 == 1 && (words[j] >> x.b & 1 == 1) == (x.letter == b'D')) {
-            distance[j * q + s] = 0;
-            queue.push((s, j));
+    match x.letter {
+        b'T' | b'F' | b'P' => 0,
+        b'N' => 1 << x.a,
+        b'A' | b'O' => 1 << x.a | 1 << x.b,
+        _ => automaton(t, x.a as usize).edges.chunks_exact(4).fold(1 << x.b, |tested, e| tested | 1 << (e[2] & 63)),
+    }
+}
+
+/// The nodes that node k stands on.
+fn stands_on(t: &[u16; TABLE], k: usize) -> u64 {
+    (0..k).rev().fold(named(t, k), |all, j| if all >> j & 1 == 1 { all | named(t, j) } else { all })
+}
+
+/// Edges by a state: those of state s at `first[s]..first[s + 1]`, in their order.
+struct Edges {
+    first: [u16; 18],
+    numbers: [MaybeUninit<u8>; 256],
+}
+
+impl Edges {
+    /// By the state at place `place` of an edge: 0 leaves, 3 enters. Sorted by counting.
+    fn by(edges: &[u16], place: usize) -> Edges {
+        let mut by = Edges { first: [0; 18], numbers: room() };
+        for e in edges.chunks_exact(4) {
+            by.first[(e[place] & 15) as usize + 2] += 1;
+        }
+        for s in 0..16 {
+            by.first[s + 2] += by.first[s + 1];
+        }
+        for (number, e) in edges.chunks_exact(4).enumerate() {
+            let at = &mut by.first[(e[place] & 15) as usize + 1];
+            by.numbers[*at as usize & 255].write(number as u8);
+            *at += 1;
+        }
+        by
+    }
+
+    fn of(&self, s: usize) -> impl Iterator<Item = usize> + '_ {
+        self.numbers[self.first[s] as usize..self.first[s + 1] as usize].iter().map(|x| unsafe { x.assume_init() } as usize)
+    }
+}
+
+/// The entry beside j at which an edge of this direction arrives (`by` 1) or which it leaves (`by` -1); beyond the log where there is none.
+#[inline(always)]
+fn beside(j: usize, dir: u16, by: isize) -> usize {
+    (j as isize + by * [0, 1, -1, 0][(dir & 3) as usize]) as usize
+}
+
+/// Distances to the goal, found breadth first.
+struct Search<'a> {
+    states: usize,
+    distance: &'a mut [u16],
+    queue: [MaybeUninit<(u16, u16)>; 8192],
+    found: usize,
+}
+
+impl Search<'_> {
+    #[inline(always)]
+    fn find(&mut self, s: usize, j: usize, far: u16) {
+        let at = j * self.states + s;
+        if self.distance[at] == u16::MAX {
+            self.distance[at] = far;
+            self.queue[self.found & 8191].write((s as u16, j as u16));
+            self.found += 1;
         }
     }
-    let mut head = 0;
-    while head < queue.len() {
-        let (u, j) = queue[head];
-        head += 1;
-        for e in m.edges.chunks_exact(4).filter(|e| e[3] as usize == u) {
-            let p = match e[1] {
-                0 => j,
-                1 if j > 0 => j - 1,
-                2 if j + 1 < n => j + 1,
-                _ => continue,
-            };
-            let at = p * q + e[0] as usize;
-            if words[p] >> e[2] & 1 == 1 && distance[at] == u16::MAX {
-                distance[at] = distance[j * q + u] + 1;
-                queue.push((e[0] as usize, p));
+}
+
+fn search<const B: usize>(t: &[u16; TABLE], log: &[u32], k: usize, i: usize, edges: &mut [u16]) -> Option<usize> {
+    let (x, n) = (node(t, k), log.len());
+    let mut judging = Judging::<B>::new(n);
+    judging.nodes(t, log, stands_on(t, k), None);
+    let holds = |node: u16, j: usize| judging.column(node as usize & 63)[j / 64 % B] >> (j % 64) & 1 == 1;
+    let m = automaton(t, x.a as usize);
+    let edge = |number: usize| &m.edges[4 * number..4 * number + 4];
+
+    let q = m.states;
+    let mut places = room::<u16, 8192>();
+    let mut search = Search { states: q, distance: filled(&mut places[..q * n], u16::MAX), queue: room(), found: 0 };
+    for j in (0..n).filter(|j| holds(x.b as u16, *j) == (x.letter == b'D')) {
+        (0..q).filter(|s| m.accepting >> s & 1 == 1).for_each(|s| search.find(s, j, 0));
+    }
+    let entering = Edges::by(m.edges, 3);
+    let mut looked = 0;
+    while looked < search.found && search.distance[i * q + m.start] == u16::MAX {
+        let (u, j) = unsafe { search.queue[looked].assume_init() };
+        looked += 1;
+        let far = search.distance[j as usize * q + u as usize] + 1;
+        for e in entering.of(u as usize).map(edge) {
+            let p = beside(j as usize, e[1], -1);
+            if p < n && holds(e[2], p) {
+                search.find(e[0] as usize, p, far);
             }
         }
     }
-    let (mut s, mut j) = (m.start, i);
-    let long = distance[j * q + s];
-    if long == u16::MAX {
+
+    let long = search.distance[i * q + m.start];
+    if long == u16::MAX || edges.len() < long as usize {
         return None;
     }
-    for place in 0..long as usize {
-        let left = distance[j * q + s];
-        let (number, to, entry) = m.edges.chunks_exact(4).enumerate().find_map(|(number, e)| {
-            let entry = match e[1] {
-                0 => j,
-                1 if j + 1 < n => j + 1,
-                2 if j > 0 => j - 1,
-                _ => return None,
-            };
-            let near = e[0] as usize == s && words[j] >> e[2] & 1 == 1 && distance[entry * q + e[3] as usize] + 1 == left;
-            near.then_some((number, e[3] as usize, entry))
-        })?;
-        *edges.get_mut(place)? = first + number as u16;
-        (s, j) = (to, entry);
+    let first = t[192 + 6 * x.a as usize + 3];
+    let leaving = Edges::by(m.edges, 0);
+    let (mut s, mut j) = (m.start, i);
+    for (place, left) in (0..long).rev().enumerate() {
+        let nearer = |number: &usize| {
+            let e = edge(*number);
+            let p = beside(j, e[1], 1);
+            p < n && holds(e[2], j) && search.distance[p * q + e[3] as usize] == left
+        };
+        let number = leaving.of(s).find(nearer)?;
+        edges[place] = first + number as u16;
+        (s, j) = (edge(number)[3] as usize, beside(j, edge(number)[1], 1));
     }
     Some(long as usize)
 }

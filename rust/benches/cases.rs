@@ -1,0 +1,100 @@
+//! The sheets and logs that are timed.
+
+/// Document 01's sheet Z: a B over D and or.
+pub const Z: &str = "P,0\nP,1\nP,2\nN,0\nT\nM,1,0\nG,0\nE,0,2,3,0\nD,0,1\nN,2\nO,6,5\nM,1,0\nG,0\nE,0,1,4,0\nB,1,7\n";
+/// Document 01's sheet W, which looks only ahead.
+pub const W: &str = "T\nP,1\nM,1,0\nG,0\nE,0,1,0,0\nD,0,1\n";
+
+/// A sheet's text and a log.
+pub type Case = (String, Vec<u32>);
+
+/// Words of which each bit is set in about half of the entries.
+fn mixed(entries: u32) -> Vec<u32> {
+    (0..entries).map(|i| i.wrapping_mul(2654435761) >> 9).collect()
+}
+
+fn facts(count: usize) -> String {
+    (0..count).map(|f| format!("P,{f}\n")).collect()
+}
+
+/// D and B in turn.
+fn letter(k: usize) -> char {
+    ['D', 'B'][k % 2]
+}
+
+/// 16 states and 256 edges in three directions that test so many facts, led to their states by `to`; each further node is a D or B of the one before.
+fn nodes_in_a_row(tested: usize, to: fn(usize) -> usize) -> Case {
+    let mut text = facts(tested) + "M,16,0\nG,15\n";
+    for e in 0..256 {
+        text += &format!("E,{},{},{},{}\n", e % 16, e % 3, e % tested, to(e) % 16);
+    }
+    for k in tested..64 {
+        text += &format!("{},0,{}\n", letter(k - tested), k - 1);
+    }
+    (text, mixed(512))
+}
+
+/// Edges repeat: 48 of the 256 are different, and from each state they lead to one other.
+pub fn hard(tested: usize) -> Case {
+    nodes_in_a_row(tested, |e| e * 7 + 3)
+}
+
+/// All 256 edges are different, and from each state they lead to all others.
+pub fn dense() -> Case {
+    nodes_in_a_row(2, |e| e * 7 + e / 48 * 5 + 3)
+}
+
+/// 16 automata, each a ring of 16 edges in three directions, with three nodes each.
+pub fn many() -> Case {
+    let mut text = facts(8);
+    for m in 0..16 {
+        text += "M,16,0\nG,15\n";
+        for e in 0..16 {
+            text += &format!("E,{},{},{},{}\n", e, (e + m) % 3, (e * 5 + m) % 8, (e + 1) % 16);
+        }
+    }
+    for k in 0..48 {
+        text += &format!("{},{},{}\n", letter(k), k / 3, k % 8);
+    }
+    (text, mixed(512).iter().zip(0..).map(|(w, i)| w | i % 3 * 3).collect())
+}
+
+/// Two edges ahead, one back, over a ring of 15 states: the marks of 62 D nodes travel to and fro from the last entry.
+pub fn zigzag() -> Case {
+    let mut text = "T\nP,1\nM,15,0\nG,14\n".to_string();
+    for s in 0..15 {
+        text += &format!("E,{s},{},0,{}\n", [1, 1, 2][s % 3], (s + 1) % 15);
+    }
+    text += &"D,0,1\n".repeat(62);
+    (text, (0..512).map(|i| if i == 511 { 2 } else { 0 }).collect())
+}
+
+/// State s goes over the whole log, ahead or back in turn, and at its end becomes state s + 1: marks go over the log once for each of 16 states.
+/// The other edges lead back to lower states and reach nothing new, but are there to be looked at. 59 D nodes, each of the one before.
+pub fn snake() -> Case {
+    let mut text = "T\nP,0\nP,1\nP,2\nF\nM,16,0\nG,15\n".to_string();
+    for s in 0..16 {
+        text += &format!("E,{s},{},0,{s}\n", 1 + s % 2);
+        if s < 15 {
+            text += &format!("E,{s},0,{},{}\n", 1 + s % 2, s + 1);
+        }
+    }
+    let lower = (0..16).flat_map(|s| (0..s).flat_map(move |t| (0..3).map(move |d| (s, d, t))));
+    for (s, d, t) in lower.take(256 - 31) {
+        text += &format!("E,{s},{d},0,{t}\n");
+    }
+    text += "D,0,3\n";
+    for k in 5..63 {
+        text += &format!("D,0,{k}\n");
+    }
+    // fact 0 at the last entry, fact 1 at the first; fact 2, the goal, at the first
+    let mut log = vec![0; 512];
+    log[511] = 1;
+    log[0] = 0b110;
+    (text, log)
+}
+
+/// A thousand different logs of five entries for sheet Z.
+pub fn short_logs() -> Vec<u32> {
+    mixed(5000).iter().map(|w| w % 8).collect()
+}
