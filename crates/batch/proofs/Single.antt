@@ -1,19 +1,15 @@
 -- One log that all questions are answered of: judging it accepts, with the log's own words and count.
 use Prim.Native.Nat.{ℕ, zero, suc, _≤_}
 use native.Mathlib.Omega.{arith}
-use mathlib.Core.Path.{_≡_, refl, sym, ap, _∙_}
-use mathlib.Core.Bool.{Bool, true, false, true≢false}
-use mathlib.Core.List.{List, _++_, append-nil}
-use lib.Dec.{eqb}
-use lib.ListN.{length, drop, drop-of-length-le}
-use borrow.Author.Tests.{le-leb, eq-eqb}
+use mathlib.Core.Path.{_≡_, refl, sym}
+use mathlib.Core.Bool.{Bool, true, false}
+use mathlib.Core.List.{List, _++_}
+use lib.ListN.{length, drop}
+use borrow.Author.Tests.{le-leb}
 use Rattle.aldlf.specs.Constants.{entryLimit}
 use Rattle.aldlf.specs.Sheet.{Sheet}
-use Rattle.aldlf.specs.Outcomes.{Whole, partWords, logWords, heldIn, countBelow, one, wholeNumber, wholeOutcome}
+use Rattle.aldlf.specs.Outcomes.{partWords, logWords, heldIn, countBelow, one, wholeNumber, wholeOutcome}
 use Rattle.aldlf.proofs.Packing.{length-tabulate}
-use Rattle.judge.specs.declared.Judged.{Judged}
-use Rattle.judge.specs.declared.Judged.the-variants.{Held, Refused}
-use Rattle.judge.specs.Answers.{wholeOf, isHeld}
 use Rattle.judge.proofs.OutcomeLaws.{whole-accepted}
 
 pub words-long : (S : Sheet) (log : List ℕ) → length (logWords S log) ≡ length log
@@ -40,12 +36,3 @@ module _ (given : Bool) (S : Sheet) (log buffer : List ℕ) (yes : given ≡ tru
 
   pub whole-is : wholeOutcome given S log buffer ≡ record { number = 0; held = heldIn S log; buffer = logWords S log ++ drop (length log) buffer }
   whole-is = sym (whole-accepted given S log buffer (heldIn S log) (logWords S log ++ drop (length log) buffer) number-0 refl refl)
-
-  module _ (after : List ℕ) (r : Judged) (is : wholeOf r after ≡ wholeOutcome given S log buffer) (held : isHeld r ≡ eqb (wholeNumber given log buffer) 0) where
-    pub one-held : length buffer ≤ length log → (n : ℕ) → r ≡ Held n → (after ≡ logWords S log) × (n ≡ heldIn S log)
-    one-held all n e =
-        let w : wholeOf (Held n) after ≡ record { number = 0; held = heldIn S log; buffer = logWords S log ++ drop (length log) buffer } = ap (λ (x : Judged). wholeOf x after) (sym e) ∙ is ∙ whole-is in
-        (ap (λ (x : Whole). x .buffer) w ∙ ap (λ (l : List ℕ). logWords S log ++ l) (drop-of-length-le buffer all) ∙ append-nil (logWords S log), ap (λ (x : Whole). x .held) w)
-
-    pub never-refused : (q : ℕ) → r ≡ Refused q → ⊥
-    never-refused q e = true≢false (sym (eq-eqb (wholeNumber given log buffer) 0 number-0) ∙ sym held ∙ ap isHeld e)

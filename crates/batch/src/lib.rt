@@ -4,6 +4,7 @@ mod logs;
 mod questions;
 
 use aldlf::Table;
+use judge::prepared::prepare;
 use logs::judge_each;
 use questions::asked;
 ghost use mathlib.Core.Path.{_≡_};
@@ -34,6 +35,8 @@ pub fn judge_logs(
     if a.number != 0 {
         return a;
     }
-    judge_each(table, words, lengths, verdicts, held);
+    let mut edges = [0u32; aldlf::EDGES];
+    let with = prepare(table, &mut edges);
+    judge_each(with, &edges, words, lengths, verdicts, held);
     a
 }

@@ -174,7 +174,7 @@ pub(crate) fn automaton_number(line: NodeLine) -> u8
 }
 
 // The table's edges as numbers.
-fn pack_edges(table: Table, edges: &mut [u32])
+pub(crate) fn pack_edges(table: Table, edges: &mut [u32])
     requires { ⌜ (table .used .edges ≤ length (now edges)) × (table .used .edges ≤ edgeLimit) ⌝ }
     ensures { λ _. ⌜ Packed table (table .used .edges) (now (edges .exit)) ⌝ }
 {

@@ -12,40 +12,40 @@ use Rattle.batch.proofs.logs.judge_each.Statement.{statement}
 use Rattle.batch.proofs.logs.judge_each.Tie as tie
 
 abbrev Inv-loop : tie.InvT-loop
-Inv-loop table words lengths verdicts₀ held₀ at₀ k₀ verdicts held at k = Judged (sheetOf table) words lengths verdicts₀ held₀ verdicts held at k
+Inv-loop with edges words lengths verdicts₀ held₀ at₀ k₀ verdicts held at k = Judged (sheetOf (with .table)) words lengths verdicts₀ held₀ verdicts held at k
 
 abbrev μ-loop : tie.MeasureT-loop
-μ-loop table words lengths verdicts₀ held₀ at₀ k₀ verdicts held at k = length lengths - k
+μ-loop with edges words lengths verdicts₀ held₀ at₀ k₀ verdicts held at k = length lengths - k
 
 -- what is known of log k at the loop's test
-known : (c : tie.In-loop Inv-loop μ-loop) → let a = c .before .before .before .before .before .before .args in let l = c .before .loop in Turn (now (a .words)) (now (a .lengths)) (now (a .verdicts)) (now (a .held)) (l .at) (l .k)
+known : (c : tie.In-loop Inv-loop μ-loop) → let a = c .before .before .before .before .before .before .before .args in let l = c .before .loop in Turn (now (a .words)) (now (a .lengths)) (now (a .verdicts)) (now (a .held)) (l .at) (l .k)
 known c =
-    let a = c .before .before .before .before .before .before .args in
+    let a = c .before .before .before .before .before .before .before .args in
     let l = c .before .loop in
-    turn (sheetOf (a .table)) (now (a .words)) (now (a .lengths)) (now (a .verdicts)) (now (a .held)) (l .verdicts) (l .held) (l .at) (l .k) (l .inv) (c .loop-test .taken)
+    turn (sheetOf (a .with .table)) (now (a .words)) (now (a .lengths)) (now (a .verdicts)) (now (a .held)) (l .verdicts) (l .held) (l .at) (l .k) (l .inv) (c .loop-test .taken)
 
 -- log k, cut out of the words, has as many as its length says
-cut : (c : tie.In-loop Inv-loop μ-loop) → let a = c .before .before .before .before .before .before .args in let l = c .before .loop in let n = getD (now (a .lengths)) (l .k) 0 in length (take (l .at + n - l .at) (drop (l .at) (now (a .words)))) ≡ n
+cut : (c : tie.In-loop Inv-loop μ-loop) → let a = c .before .before .before .before .before .before .before .args in let l = c .before .loop in let n = getD (now (a .lengths)) (l .k) 0 in length (take (l .at + n - l .at) (drop (l .at) (now (a .words)))) ≡ n
 cut c =
-    let a = c .before .before .before .before .before .before .args in
+    let a = c .before .before .before .before .before .before .before .args in
     let l = c .before .loop in
-    log-long (sheetOf (a .table)) (now (a .words)) (now (a .lengths)) (now (a .verdicts)) (now (a .held)) (l .verdicts) (l .held) (l .at) (l .k) (l .inv) (c .loop-test .taken)
+    log-long (sheetOf (a .with .table)) (now (a .words)) (now (a .lengths)) (now (a .verdicts)) (now (a .held)) (l .verdicts) (l .held) (l .at) (l .k) (l .inv) (c .loop-test .taken)
 
-long : (c : tie.At-loop Inv-loop μ-loop) → length (c .loop .verdicts) ≡ length (now (c .before .before .before .before .before .args .verdicts))
+long : (c : tie.At-loop Inv-loop μ-loop) → length (c .loop .verdicts) ≡ length (now (c .before .before .before .before .before .before .args .verdicts))
 long c =
-    let a = c .before .before .before .before .before .args in
+    let a = c .before .before .before .before .before .before .args in
     let l = c .loop in
-    same-verdicts (sheetOf (a .table)) (now (a .words)) (now (a .lengths)) (now (a .verdicts)) (now (a .held)) (l .verdicts) (l .held) (l .at) (l .k) (l .inv)
+    same-verdicts (sheetOf (a .with .table)) (now (a .words)) (now (a .lengths)) (now (a .verdicts)) (now (a .held)) (l .verdicts) (l .held) (l .at) (l .k) (l .inv)
 
-long-held : (c : tie.At-loop Inv-loop μ-loop) → length (c .loop .held) ≡ length (now (c .before .before .before .before .before .args .held))
+long-held : (c : tie.At-loop Inv-loop μ-loop) → length (c .loop .held) ≡ length (now (c .before .before .before .before .before .before .args .held))
 long-held c =
-    let a = c .before .before .before .before .before .args in
+    let a = c .before .before .before .before .before .before .args in
     let l = c .loop in
-    same-held (sheetOf (a .table)) (now (a .words)) (now (a .lengths)) (now (a .verdicts)) (now (a .held)) (l .verdicts) (l .held) (l .at) (l .k) (l .inv)
+    same-held (sheetOf (a .with .table)) (now (a .words)) (now (a .lengths)) (now (a .verdicts)) (now (a .held)) (l .verdicts) (l .held) (l .at) (l .k) (l .inv)
 
 loop-holds : tie.Need-loop-holds Inv-loop μ-loop
-loop-holds c = let S = c .before .before .before .before in
-    start (sheetOf (S .args .table)) (now (S .args .words)) (now (S .args .lengths)) (now (S .args .verdicts)) (now (S .args .held)) (S .pre .1 .0) (S .pre .1 .1)
+loop-holds c = let S = c .before .before .before .before .before in
+    start (sheetOf (S .args .with .table)) (now (S .args .words)) (now (S .args .lengths)) (now (S .args .verdicts)) (now (S .args .held)) (S .pre .1 .0) (S .pre .1 .1)
 
 mul-end : tie.Need-mul-end Inv-loop μ-loop
 mul-end c = search needs
@@ -54,7 +54,7 @@ shared-slice-read-end : tie.Need-shared-slice-read-end Inv-loop μ-loop
 shared-slice-read-end c = search needs
 
 cast-end : tie.Need-cast-end Inv-loop μ-loop
-cast-end c = omega (arith, c .shared-slice-known3 .given (c .before .before .loop .k))
+cast-end c = omega (arith, c .shared-slice-known4 .given (c .before .before .loop .k))
 
 add-end : tie.Need-add-end Inv-loop μ-loop
 add-end c = omega (arith, known (c .before) .log .there)
@@ -85,20 +85,20 @@ part-judge-one-end-2 c = let t = known (c .before .before) .verdicts-room in let
 
 judge-one-requires : tie.Need-judge-one-requires Inv-loop μ-loop
 judge-one-requires c κs =
-    let S = c .before .before .before .before .before .before .before .before .before in
+    let S = c .before .before .before .before .before .before .before .before .before .before in
     let a = S .args in
     let l = c .before .before .before .before .loop in
     let t = known (c .before .before .before) in
     let n = cut (c .before .before .before) in
-    let v = room-long (sheetOf (a .table)) (now (a .words)) (now (a .lengths)) (now (a .verdicts)) (now (a .held)) (l .verdicts) (l .held) (l .at) (l .k) (l .inv) (c .before .before .before .loop-test .taken) in
-    (S .pre .0, ((omega (arith, t .log .some), omega (arith, t .log .few)), v ∙ sym n))
+    let v = room-long (sheetOf (a .with .table)) (now (a .words)) (now (a .lengths)) (now (a .verdicts)) (now (a .held)) (l .verdicts) (l .held) (l .at) (l .k) (l .inv) (c .before .before .before .loop-test .taken) in
+    (S .pre .0, (omega (arith, t .log .few, n), v ∙ sym n))
 
 cast-held : tie.Need-cast-held Inv-loop μ-loop
 cast-held c =
-    let a = c .before .before .before .before .before .before .before .before .before .before .before .before .args in
+    let a = c .before .before .before .before .before .before .before .before .before .before .before .before .before .args in
     let l = c .before .before .before .before .before .before .before .loop in
     let n = getD (now (a .lengths)) (l .k) 0 in
-    omega (arith, c .before .before .judge-one .ensures .1, held-few (sheetOf (a .table)) (take (l .at + n - l .at) (drop (l .at) (now (a .words)))), cut (c .before .before .before .before .before .before), known (c .before .before .before .before .before .before) .log .few)
+    omega (arith, c .before .before .judge-one .ensures .1, held-few (sheetOf (a .with .table)) (take (l .at + n - l .at) (drop (l .at) (now (a .words)))), cut (c .before .before .before .before .before .before), known (c .before .before .before .before .before .before) .log .few)
 
 mul-held : tie.Need-mul-held Inv-loop μ-loop
 mul-held c = let t = known (c .before .before .before .before .before .before) .held-room in let e = long-held (c .before .before .before .before .before .before .before) in omega arith
@@ -114,11 +114,11 @@ loop-less c = search needs
 
 loop-again : tie.Need-loop-again Inv-loop μ-loop
 loop-again c =
-    let a = c .before .before .before .before .before .before .before .before .before .before .before .before .args in
+    let a = c .before .before .before .before .before .before .before .before .before .before .before .before .before .args in
     let l = c .before .before .before .before .before .before .before .loop in
     let j = c .before .before .judge-one in
-    next (sheetOf (a .table)) (now (a .words)) (now (a .lengths)) (now (a .verdicts)) (now (a .held)) (l .verdicts) (l .held) (l .at) (l .k) (l .inv) (c .before .before .before .before .before .before .loop-test .taken)
-    (j .last .1 .1 .0) (j .result) (j .ensures .0) (j .ensures .1)
+    next (sheetOf (a .with .table)) (now (a .words)) (now (a .lengths)) (now (a .verdicts)) (now (a .held)) (l .verdicts) (l .held) (l .at) (l .k) (l .inv) (c .before .before .before .before .before .before .loop-test .taken)
+    (j .last .1 .1 .1 .0) (j .result) (j .ensures .0) (j .ensures .1)
 
 same-length : tie.Need-same-length Inv-loop μ-loop
 same-length c = long (c .before)
@@ -128,11 +128,11 @@ same-length-2 c = long-held (c .before)
 
 returns : tie.Need-returns Inv-loop μ-loop
 returns c =
-    let S = c .before .before .before .before .before .before in
+    let S = c .before .before .before .before .before .before .before in
     let a = S .args in
     let l = c .before .loop in (
-      all-words (sheetOf (a .table)) (now (a .words)) (now (a .lengths)) (now (a .verdicts)) (now (a .held)) (l .verdicts) (l .held) (l .at) (l .k) (l .inv) (S .pre .1 .0) (c .loop-test .left),
-      all-counts (sheetOf (a .table)) (now (a .words)) (now (a .lengths)) (now (a .verdicts)) (now (a .held)) (l .verdicts) (l .held) (l .at) (l .k) (l .inv) (S .pre .1 .0) (c .loop-test .left),
+      all-words (sheetOf (a .with .table)) (now (a .words)) (now (a .lengths)) (now (a .verdicts)) (now (a .held)) (l .verdicts) (l .held) (l .at) (l .k) (l .inv) (S .pre .1 .0) (c .loop-test .left),
+      all-counts (sheetOf (a .with .table)) (now (a .words)) (now (a .lengths)) (now (a .verdicts)) (now (a .held)) (l .verdicts) (l .held) (l .at) (l .k) (l .inv) (S .pre .1 .0) (c .loop-test .left),
     )
 
 pub judge-each-spec : {M : Type 1} → statement M
