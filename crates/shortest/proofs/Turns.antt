@@ -12,7 +12,7 @@ use Rattle.graph.specs.Graph.{Graph, Step, far, at}
 use Rattle.graph.specs.Configurations.{pickNat}
 use Rattle.shortest.specs.Progress.{Progress, Relaxed, fresh, zeroIn, pickList}
 use Rattle.shortest.proofs.Marked.{marked-lt}
-use Rattle.shortest.proofs.Progress.{skip, seen, push, old, q-old}
+use Rattle.shortest.proofs.Progress.{skip, skip-to, seen, push, old, q-old}
 
 pub fresh-out : (D : List ℕ) (p : ℕ) → length D ≤ p → fresh D p ≡ false
 fresh-out D p l = rw (le-ltb p (length D) l)
@@ -55,6 +55,19 @@ pub record Turn (G : Graph) (D₁ Q₁ : List ℕ) (h t₁ : ℕ) (D Q : List �
 
 pub turn-none : (G : Graph) (D Q : List ℕ) (h t : ℕ) → h < t → Turn G D Q h t D Q (G .first) t
 turn-none G D Q h t l = record { long = refl; wide = refl; top = refl; deep = refl; after = l; search = λ Z s. s }
+
+-- edges that do not lead to the queue's place are passed over
+pub turn-skip : (G : Graph) (D₁ Q₁ : List ℕ) (h t₁ : ℕ) (D Q : List ℕ) (k k2 t : ℕ) → Turn G D₁ Q₁ h t₁ D Q k t → ((e p : ℕ) → k ≤ e → e < k2 → Step G p e (at Q₁ h) → ⊥)
+    → Turn G D₁ Q₁ h t₁ D Q k2 t
+turn-skip G D₁ Q₁ h t₁ D Q k k2 t u none =
+    record {
+      long = u .long;
+      wide = u .wide;
+      top = u .top;
+      deep = u .deep;
+      after = u .after;
+      search = λ Z a. skip-to G (zeroIn Z) D Q h t k k2 (u .search Z a) (λ e p le lt st. none e p le lt (subst (Step G p e) (u .top) st));
+    }
 
 module _
     (G : Graph)
