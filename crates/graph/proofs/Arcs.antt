@@ -10,13 +10,13 @@ use Rattle.aldlf.specs.Sheet.{noEdge}
 use Rattle.aldlf.specs.declared.Edge.{Edge}
 use Rattle.reach.specs.Marks.{packedOf}
 use Rattle.graph.specs.Graph.{at}
-use Rattle.graph.specs.Arcs.{unpackedOf, intoOf, outOf, Arc, Chained, Linked}
+use Rattle.graph.specs.Arcs.{none, unpackedOf, intoOf, outOf, Arc, Chained, Linked}
 use Rattle.graph.specs.Configurations.{EdgeFits}
 use Rattle.graph.proofs.Chains.{chain-none, chain-more}
 use Rattle.graph.proofs.Cases.{same?, split}
 
 -- the fields of an arc, one by one
-module _ (from to dir test into out : ℕ) (a : from < 16) (b : to < 16) (d : dir ≤ 2) (n : test < 64) (i : into ≤ 256) (o : out ≤ 256) where
+module _ (from to dir test into out : ℕ) (a : from < 16) (b : to < 16) (d : dir ≤ 2) (n : test < 64) (i : into < 65536) (o : out < 65536) where
   abbrev number : ℕ
   number = from + 256 * to + 65536 * dir + 16777216 * test + 4294967296 * into + 281474976710656 * out
 
@@ -49,13 +49,13 @@ module _ (from to dir test into out : ℕ) (a : from < 16) (b : to < 16) (d : di
       ∙ ap (λ (x : ℕ). made from dir test x) to-is
 
 -- what was packed comes out as it went in
-pub arc-made : (x : Edge) (into out : ℕ) → EdgeFits 16 x → into ≤ 256 → out ≤ 256 → Arc x into out (packedOf x + 4294967296 * into + 281474976710656 * out)
+pub arc-made : (x : Edge) (into out : ℕ) → EdgeFits 16 x → Arc x (into % 65536) (out % 65536) (packedOf x + 4294967296 * (into % 65536) + 281474976710656 * (out % 65536))
 unfolding unpackedOf
-arc-made x into out f i o =
+arc-made x into out f =
     record {
-      edge = edge-is (x .from .0) (x .to .0) (x .dir) (x .test .0) into out (f .from-fits) (f .to-fits) (f .dir-fits) (f .test-fits) i o;
-      into-is = into-is (x .from .0) (x .to .0) (x .dir) (x .test .0) into out (f .from-fits) (f .to-fits) (f .dir-fits) (f .test-fits) i o;
-      out-is = out-is (x .from .0) (x .to .0) (x .dir) (x .test .0) into out (f .from-fits) (f .to-fits) (f .dir-fits) (f .test-fits) i o;
+      edge = edge-is (x .from .0) (x .to .0) (x .dir) (x .test .0) (into % 65536) (out % 65536) (f .from-fits) (f .to-fits) (f .dir-fits) (f .test-fits) (omega arith) (omega arith);
+      into-is = into-is (x .from .0) (x .to .0) (x .dir) (x .test .0) (into % 65536) (out % 65536) (f .from-fits) (f .to-fits) (f .dir-fits) (f .test-fits) (omega arith) (omega arith);
+      out-is = out-is (x .from .0) (x .to .0) (x .dir) (x .test .0) (into % 65536) (out % 65536) (f .from-fits) (f .to-fits) (f .dir-fits) (f .test-fits) (omega arith) (omega arith);
     }
 
 -- three stores: at the places of two heads and of the edge
@@ -84,12 +84,12 @@ module _ (l : List ℕ) (t f e v : ℕ) (lt : t < 16) (lf : f < 16) (le : e < 25
       getD-set-other (set (set l (256 + t) e) (272 + f) e) e (272 + f) v 0 (λ q. omega arith)
       ∙ getD-set-same (set l (256 + t) e) (272 + f) e 0 (omega (arith, length-set l (256 + t) e))
 
-pub chained-none : (table : List Edge) (last : ℕ) (arcs : List ℕ) → last ≤ 256 → ((i : ℕ) → 256 ≤ i → i < 288 → at arcs i ≡ 256) → Chained table last last arcs
+pub chained-none : (table : List Edge) (last : ℕ) (arcs : List ℕ) → last ≤ 256 → ((i : ℕ) → 256 ≤ i → i < 288 → at arcs i ≡ none) → Chained table last last arcs
 chained-none table last arcs few empty =
     record {
       edge-is = λ e a b. absurd (omega arith);
-      into = chain-none _ _ _ last few (λ s l. empty (256 + s) (omega arith) (omega arith));
-      out = chain-none _ _ _ last few (λ s l. empty (272 + s) (omega arith) (omega arith));
+      into = chain-none _ _ _ last few (λ s l. omega (arith, empty (256 + s) (omega arith) (omega arith)));
+      out = chain-none _ _ _ last few (λ s l. omega (arith, empty (272 + s) (omega arith) (omega arith)));
     }
 
 module _
@@ -103,11 +103,7 @@ module _
     (room : 288 ≤ length before)
     (same : x ≡ getD table e noEdge)
     (fits : EdgeFits 16 x) where
-  -- what `link` asks of the two heads
-  pub heads-few : (at before (256 + x .to .0) ≤ 256) × (at before (272 + x .from .0) ≤ 256)
-  heads-few = (c .into .heads (x .to .0) (fits .to-fits) .few, c .out .heads (x .from .0) (fits .from-fits) .few)
-
-  chained-set : (p : ℕ) → Arc x (at before (256 + x .to .0)) (at before (272 + x .from .0)) p
+  chained-set : (p : ℕ) → Arc x (at before (256 + x .to .0) % 65536) (at before (272 + x .from .0) % 65536) p
       → Chained table e last (set (set (set before (256 + x .to .0) e) (272 + x .from .0) e) e p)
   chained-set p m =
       record {
@@ -116,20 +112,20 @@ module _
             (λ ne. ap unpackedOf (other i (omega arith) b) ∙ c .edge-is i (omega arith) b)
             (same? i e);
         into =
-            chain-more _ _ _ _ _ _ e last (x .to .0) l few (c .into)
+            chain-more _ _ _ _ _ _ e last (x .to .0) l (c .into)
             (ap (λ (y : ℕ). unpackedOf y .to .0) here ∙ ap (λ (y : Edge). y .to .0) (m .edge))
             (λ i a b. ap (λ (y : ℕ). unpackedOf y .to .0) (other i a b))
-            (at-into before (x .to .0) (x .from .0) e p (fits .to-fits) (fits .from-fits) (omega arith) room)
-            (λ s ls ne. kept (256 + s) (λ q. omega arith) (λ q. ne (omega arith)) (λ q. omega (arith, fits .from-fits)))
+            (omega (arith, at-into before (x .to .0) (x .from .0) e p (fits .to-fits) (fits .from-fits) (omega arith) room))
+            (λ s ls ne. ap (λ (y : ℕ). y % 65536) (kept (256 + s) (λ q. omega arith) (λ q. ne (omega arith)) (λ q. omega (arith, fits .from-fits))))
             (ap intoOf here ∙ m .into-is)
             (λ i a b. ap intoOf (other i a b))
             (fits .to-fits);
         out =
-            chain-more _ _ _ _ _ _ e last (x .from .0) l few (c .out)
+            chain-more _ _ _ _ _ _ e last (x .from .0) l (c .out)
             (ap (λ (y : ℕ). unpackedOf y .from .0) here ∙ ap (λ (y : Edge). y .from .0) (m .edge))
             (λ i a b. ap (λ (y : ℕ). unpackedOf y .from .0) (other i a b))
-            (at-out before (x .to .0) (x .from .0) e p (fits .to-fits) (fits .from-fits) (omega arith) room)
-            (λ s ls ne. kept (272 + s) (λ q. omega arith) (λ q. omega (arith, fits .to-fits)) (λ q. ne (omega arith)))
+            (omega (arith, at-out before (x .to .0) (x .from .0) e p (fits .to-fits) (fits .from-fits) (omega arith) room))
+            (λ s ls ne. ap (λ (y : ℕ). y % 65536) (kept (272 + s) (λ q. omega arith) (λ q. omega (arith, fits .to-fits)) (λ q. ne (omega arith))))
             (ap outOf here ∙ m .out-is)
             (λ i a b. ap outOf (other i a b))
             (fits .from-fits);

@@ -6,12 +6,12 @@ use mathlib.Core.Logic.{⊎-elim}
 use Rattle.graph.specs.Arcs.{Least, Chain}
 use Rattle.graph.proofs.Cases.{same?}
 
-pub chain-none : (key head link : ℕ → ℕ) (last : ℕ) → last ≤ 256 → ((s : ℕ) → s < 16 → head s ≡ 256) → Chain key head link last last
+pub chain-none : (key head link : ℕ → ℕ) (last : ℕ) → last ≤ 256 → ((s : ℕ) → s < 16 → head s ≡ 65535) → Chain key head link last last
 chain-none key head link last few empty =
     record {
       heads = λ s l.
           let h = empty s l in
-          record { above = omega arith; few = omega arith; hit = λ x. absurd (omega arith); none = λ e a b c. absurd (omega arith) };
+          record { above = omega arith; hit = λ x. absurd (omega arith); none = λ e a b c. absurd (omega arith) };
       links = λ e a b. absurd (omega arith);
     }
 
@@ -20,7 +20,6 @@ least-same : (key key2 : ℕ → ℕ) (s k last x : ℕ) → ((i : ℕ) → k �
 least-same key key2 s k last x same l =
     record {
       above = l .above;
-      few = l .few;
       hit = λ b. same x (l .above) b ∙ l .hit b;
       none = λ e a b c z. l .none e a b c (sym (same e a c) ∙ z);
     }
@@ -29,7 +28,6 @@ module _
     (key head link key2 head2 link2 : ℕ → ℕ)
     (e last s : ℕ)
     (l : e < last)
-    (few : last ≤ 256)
     (c : Chain key head link (e + 1) last)
     (key-here : key2 e ≡ s)
     (key-other : (i : ℕ) → e < i → i < last → key2 i ≡ key i)
@@ -39,14 +37,13 @@ module _
     (link-other : (i : ℕ) → e < i → i < last → link2 i ≡ link i)
     (ls : s < 16) where
   new-head : Least key2 s e last e
-  new-head = record { above = omega arith; few = omega arith; hit = λ b. key-here; none = λ i a b. absurd (omega arith) }
+  new-head = record { above = omega arith; hit = λ b. key-here; none = λ i a b. absurd (omega arith) }
 
   old-head : (r x : ℕ) → (r ≡ s → ⊥) → Least key r (e + 1) last x → Least key2 r e last x
   old-head r x ne o =
       let a = o .above in
       record {
         above = omega arith;
-        few = o .few;
         hit = λ b. key-other x (omega arith) b ∙ o .hit b;
         none = λ i b d f z.
             ⊎-elim (λ q. ne (sym z ∙ subst (λ (y : ℕ). key2 y ≡ s) (sym q) key-here))

@@ -3,7 +3,7 @@ use Prim.Native.Nat.{ℕ, _+_, _/_, _%_, _≤_, _<_}
 use mathlib.Core.Path.{_≡_}
 use mathlib.Core.List.{List}
 use lib.ListN.{getD, set}
-use Rattle.aldlf.specs.Constants.{stateLimit, edgeLimit}
+use Rattle.aldlf.specs.Constants.{stateLimit}
 use Rattle.aldlf.specs.Sheet.{noEdge}
 use Rattle.aldlf.specs.declared.Edge.{Edge}
 use Rattle.graph.specs.Graph.{at}
@@ -20,6 +20,10 @@ intoOf p = p / 4294967296 % 65536
 abbrev pub outOf : ℕ → ℕ
 outOf p = p / 281474976710656 % 65536
 
+-- No edge at a head.
+abbrev pub none : ℕ
+none = 18446744073709551615
+
 -- The number of an edge with these two links.
 pub record Arc (x : Edge) (into out p : ℕ) : Type 0 where
   pub edge : unpackedOf p ≡ x
@@ -29,7 +33,6 @@ pub record Arc (x : Edge) (into out p : ℕ) : Type 0 where
 -- x is the least number from k on below `last` that has key s; where there is none, a number from `last` on.
 pub record Least (key : ℕ → ℕ) (s k last x : ℕ) : Type 0 where
   pub above : k ≤ x
-  pub few : x ≤ edgeLimit
   pub hit : x < last → key x ≡ s
   pub none : (e : ℕ) → k ≤ e → e < x → e < last → key e ≡ s → ⊥
 
@@ -40,10 +43,10 @@ pub record Chain (key head link : ℕ → ℕ) (k last : ℕ) : Type 0 where
 
 -- The chains of the edges that enter a state, and of those that leave one. Behind the edges' places stand the heads.
 abbrev pub IntoChain : List ℕ → ℕ → ℕ → Type 0
-IntoChain arcs k last = Chain (λ e. unpackedOf (at arcs e) .to .0) (λ s. at arcs (256 + s)) (λ e. intoOf (at arcs e)) k last
+IntoChain arcs k last = Chain (λ e. unpackedOf (at arcs e) .to .0) (λ s. at arcs (256 + s) % 65536) (λ e. intoOf (at arcs e)) k last
 
 abbrev pub OutChain : List ℕ → ℕ → ℕ → Type 0
-OutChain arcs k last = Chain (λ e. unpackedOf (at arcs e) .from .0) (λ s. at arcs (272 + s)) (λ e. outOf (at arcs e)) k last
+OutChain arcs k last = Chain (λ e. unpackedOf (at arcs e) .from .0) (λ s. at arcs (272 + s) % 65536) (λ e. outOf (at arcs e)) k last
 
 -- The arcs have at their numbers the table's edges from k on below `last`, chained.
 pub record Chained (table : List Edge) (k last : ℕ) (arcs : List ℕ) : Type 0 where
@@ -54,5 +57,5 @@ pub record Chained (table : List Edge) (k last : ℕ) (arcs : List ℕ) : Type 0
 -- Edge e is put at the head of its two chains.
 pub record Linked (x : Edge) (e : ℕ) (before after : List ℕ) : Type 0 where
   pub arc : ℕ
-  pub made : Arc x (at before (256 + x .to .0)) (at before (272 + x .from .0)) arc
+  pub made : Arc x (at before (256 + x .to .0) % 65536) (at before (272 + x .from .0) % 65536) arc
   pub stored : after ≡ set (set (set before (256 + x .to .0) e) (272 + x .from .0) e) e arc

@@ -6,19 +6,19 @@ use aldlf::Node;
 use aldlf::State;
 use aldlf::Table;
 ghost use mathlib.Core.Path.{_≡_};
-ghost use Prim.Native.Nat.{ℕ, _+_, _≤_, _<_};
+ghost use Prim.Native.Nat.{ℕ, _+_, _%_, _≤_, _<_};
 ghost use lib.ListN.{length, getD};
 ghost use Rattle.aldlf.specs.Constants.{stateLimit, edgeLimit};
 ghost use Rattle.aldlf.specs.Sheet.{noEdge};
 ghost use Rattle.graph.specs.Graph.{at};
-ghost use Rattle.graph.specs.Arcs.{unpackedOf, intoOf, outOf, Arc, Linked, Chained};
+ghost use Rattle.graph.specs.Arcs.{none, unpackedOf, intoOf, outOf, Arc, Linked, Chained};
 ghost use Rattle.graph.specs.Configurations.{EdgeFits};
 
 // The places of a search's edges: each edge at its number, then for each state its first edge in, then its first edge out.
 pub const ARCS: usize = 288;
 
-// No further edge.
-pub const END: u64 = 256;
+// No edge: all ones, so that places are cleared at once. Of the 16 bits that are looked at it has a number beyond every edge's.
+pub const NONE: u64 = 18446744073709551615;
 
 const INTO: usize = 256;
 
@@ -52,33 +52,32 @@ pub fn out(p: u64) -> u16
 
 // The first edge into a state.
 pub fn first_into(arcs: &[u64], s: State) -> u16
-    requires { ⌜ (s .0 < stateLimit) × (288 ≤ length (now arcs)) × (at (now arcs) (256 + s .0) ≤ edgeLimit) ⌝ }
-    ensures { λ r. ⌜ r ≡ at (now (arcs .entry)) (256 + s .0) ⌝ }
+    requires { ⌜ (s .0 < stateLimit) × (288 ≤ length (now arcs)) ⌝ }
+    ensures { λ r. ⌜ r ≡ at (now (arcs .entry)) (256 + s .0) % 65536 ⌝ }
 {
-    arcs[INTO + (s.0 as usize)] as u16
+    (arcs[INTO + (s.0 as usize)] % 65536) as u16
 }
 
 // The first edge out of a state.
 pub fn first_out(arcs: &[u64], s: State) -> u16
-    requires { ⌜ (s .0 < stateLimit) × (288 ≤ length (now arcs)) × (at (now arcs) (272 + s .0) ≤ edgeLimit) ⌝ }
-    ensures { λ r. ⌜ r ≡ at (now (arcs .entry)) (272 + s .0) ⌝ }
+    requires { ⌜ (s .0 < stateLimit) × (288 ≤ length (now arcs)) ⌝ }
+    ensures { λ r. ⌜ r ≡ at (now (arcs .entry)) (272 + s .0) % 65536 ⌝ }
 {
-    arcs[OUT + (s.0 as usize)] as u16
+    (arcs[OUT + (s.0 as usize)] % 65536) as u16
 }
 
-// The number of an edge with its two links.
+// The number of an edge with its two links, each the lowest 16 bits of a number.
 fn arc(x: Edge, into: u64, out: u64) -> u64
     requires { ⌜ EdgeFits stateLimit x ⌝ }
-    requires { ⌜ (into ≤ edgeLimit) × (out ≤ edgeLimit) ⌝ }
-    ensures { λ r. ⌜ Arc x into out r ⌝ }
+    ensures { λ r. ⌜ Arc x (into % 65536) (out % 65536) r ⌝ }
 {
-    (reach::packed(x) as u64) + 4294967296 * into + 281474976710656 * out
+    (reach::packed(x) as u64) + 4294967296 * (into % 65536) + 281474976710656 * (out % 65536)
 }
 
 // Put edge e at the head of its two chains.
 fn link(x: Edge, e: u16, arcs: &mut [u64])
     requires { ⌜ EdgeFits stateLimit x ⌝ }
-    requires { ⌜ (e < edgeLimit) × (288 ≤ length (now arcs)) × (at (now arcs) (256 + x .to .0) ≤ edgeLimit) × (at (now arcs) (272 + x .from .0) ≤ edgeLimit) ⌝ }
+    requires { ⌜ (e < edgeLimit) × (288 ≤ length (now arcs)) ⌝ }
     ensures { λ _. ⌜ Linked x e (now (arcs .entry)) (now (arcs .exit)) ⌝ }
 {
     let to = INTO + (x.to.0 as usize);
@@ -91,7 +90,7 @@ fn link(x: Edge, e: u16, arcs: &mut [u64])
 
 // Chain the edges of the automaton q, from the last one down, so that each chain rises. No chain has an edge yet.
 pub fn chain_edges(table: Table, q: Automaton, arcs: &mut [u64])
-    requires { ⌜ (q .first + q .count ≤ edgeLimit) × (288 ≤ length (now arcs)) × ((i : ℕ) → 256 ≤ i → i < 288 → at (now arcs) i ≡ edgeLimit) ⌝ }
+    requires { ⌜ (q .first + q .count ≤ edgeLimit) × (288 ≤ length (now arcs)) × ((i : ℕ) → 256 ≤ i → i < 288 → at (now arcs) i ≡ none) ⌝ }
     requires { ⌜ ((e : ℕ) → q .first ≤ e → e < q .first + q .count → EdgeFits stateLimit (getD (table .edges) e noEdge)) ⌝ }
     ensures { λ _. ⌜ Chained (table .edges) (q .first) (q .first + q .count) (now (arcs .exit)) ⌝ }
 {

@@ -9,6 +9,8 @@ use lib.ListN.{length, getD}
 use Rattle.aldlf.specs.Constants.{nodeLimit, automatonLimit, stateLimit, edgeLimit, entryLimit, letterD, letterB}
 use Rattle.aldlf.specs.Sheet.{noEdge, noAutomaton, sheetOf}
 use Rattle.aldlf.specs.Outcomes.{logFits, logWords}
+use Rattle.aldlf.specs.declared.Automaton.{Automaton}
+use Rattle.aldlf.specs.declared.Entry.{Entry}
 use Rattle.aldlf.specs.declared.NodeLine.{NodeLine}
 use Rattle.aldlf.specs.declared.Table.{Table}
 use Rattle.graph.specs.Graph.{Graph, far, at}
@@ -17,6 +19,7 @@ use Rattle.graph.specs.Configurations.{graphOf, startOf, EdgeFits, Ready}
 use Rattle.shortest.specs.Descent.{Distances, Written}
 use Rattle.shortest.specs.Goals.{GoalAt}
 use Rattle.shortest.specs.declared.Goal.{Goal}
+use Rattle.shortest.specs.declared.Query.{Query}
 use Rattle.walk.specs.declared.WalkAnswer.{WalkAnswer}
 use Rattle.walk.specs.declared.WalkAnswer.the-variants.{Shown, Refused}
 
@@ -53,6 +56,10 @@ modalOf line = eqb (line .kind) letterD || eqb (line .kind) letterB
 -- The goal of a D or B line.
 abbrev pub goalOf : NodeLine → Goal
 goalOf line = record { node = record { 0 = line .b }; want = eqb (line .kind) letterD }
+
+-- The walk that a line asks for.
+abbrev pub queryOf : Automaton → NodeLine → Entry → Query
+queryOf q line entry = record { automaton = q; goal = goalOf line; entry = entry }
 
 -- The answer for a line, in the graph of its automaton with chained edges.
 pub record LineFound (table : Table) (line : NodeLine) (words : List ℕ) (i : ℕ) (before after : List ℕ) (r : WalkAnswer) : Type 0 where

@@ -1,12 +1,9 @@
 // The search for one walk: the distance of its start and of what is nearer, then the walk, or the question that gets a no.
 use super::WalkAnswer;
+use aldlf::Automaton;
 use aldlf::Entry;
 use aldlf::Node;
 use aldlf::NodeLine;
-use aldlf::Table;
-use graph::edges::ARCS;
-use graph::edges::END;
-use graph::edges::chain_edges;
 use graph::moves::Configuration;
 use graph::moves::FAR;
 use shortest::Goal;
@@ -22,7 +19,7 @@ ghost use Rattle.graph.specs.Graph.{at, far};
 ghost use Rattle.graph.specs.Configurations.{graphOf, startOf, Ready};
 ghost use Rattle.shortest.specs.Goals.{GoalAt, Asked};
 ghost use Rattle.shortest.specs.Descent.{Descends};
-ghost use Rattle.walk.specs.Search.{Answered, Found, LineReady, LineFound};
+ghost use Rattle.walk.specs.Search.{Answered, Found, queryOf};
 
 // Questions 39 and 40, and the walk along the distances.
 fn show(arcs: &[u64], words: &[u64], query: Query, dist: &[u16], out: &mut [u16]) -> WalkAnswer
@@ -74,7 +71,7 @@ fn search(
 }
 
 // A search in no more room than it needs: clearing the larger room would take longer than the search of a short log.
-fn find(arcs: &[u64], words: &[u64], query: Query, out: &mut [u16]) -> WalkAnswer
+pub(crate) fn find(arcs: &[u64], words: &[u64], query: Query, out: &mut [u16]) -> WalkAnswer
     requires { ⌜ Ready (now arcs) (query .automaton) (now words) ⌝ }
     requires { ⌜ Asked query (length (now words)) ⌝ }
     ensures { λ r. ⌜ Found (graphOf (now (arcs .entry)) (query .automaton) (now (words .entry))) (GoalAt (now (words .entry)) (query .automaton) (query .goal))
@@ -92,28 +89,16 @@ fn find(arcs: &[u64], words: &[u64], query: Query, out: &mut [u16]) -> WalkAnswe
     search(arcs, words, query, &mut dist[..size], &mut queue, out)
 }
 
-// The walk for a D or B line at an entry: the line's automaton is searched for an end where the line's node holds (D) or fails (B).
-pub(crate) fn show_line(
-    table: Table,
-    line: NodeLine,
-    entry: Entry,
-    words: &[u64],
-    out: &mut [u16],
-) -> WalkAnswer
-    requires { ⌜ LineReady table line (length (now words)) (entry .0) ⌝ }
-    ensures { λ r. ⌜ LineFound table line (now (words .entry)) (entry .0) (now (out .entry)) (now (out .exit)) r ⌝ }
+// The walk that a D or B line asks for at an entry: of the line's automaton, to an end where the line's node holds (D) or fails (B).
+pub(crate) fn query_of(q: Automaton, line: NodeLine, entry: Entry) -> Query
+    ensures { λ r. ⌜ r ≡ queryOf q line entry ⌝ }
 {
-    let m = line.a;
-    let q = table.automata[m as usize];
-    let mut arcs = [END; ARCS];
-    chain_edges(table, q, &mut arcs);
-    let query = Query {
+    Query {
         automaton: q,
         goal: Goal {
             node: Node(line.b),
             want: line.kind == b'D',
         },
         entry,
-    };
-    find(&arcs, words, query, out)
+    }
 }

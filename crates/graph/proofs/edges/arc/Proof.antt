@@ -1,10 +1,7 @@
 -- `arc` meets its contract: no field reaches into the next. Assumes nothing.
-use Prim.Native.Nat.{ℕ, _+_, _*_}
+use Prim.Native.Nat.{ℕ, _+_, _*_, _%_}
 use mathlib.Core.Path.{sym, subst}
 use Rattle.graph.specs.Arcs.{Arc}
-use Rattle.graph.proofs.Arcs.{arc-made}
-use mathlib.Core.Path.{ap, sym, subst}
-use Prim.Native.Nat.{ℕ}
 use Rattle.graph.proofs.Arcs.{arc-made}
 use borrow.Author.Needs.{needs}
 use Rattle.graph.proofs.edges.arc.Statement.{statement}
@@ -30,8 +27,8 @@ add-result-2 c = search needs
 
 returns : tie.Need-returns
 returns c = let a = c .before .args in
-    subst (λ (y : ℕ). Arc (a .x) (a .into) (a .out) (y + 4294967296 * a .into + 281474976710656 * a .out)) (sym (c .packed .ensures))
-    (arc-made (a .x) (a .into) (a .out) (c .before .pre .0) (c .before .pre .1 .0) (c .before .pre .1 .1))
+    subst (λ (y : ℕ). Arc (a .x) (a .into % 65536) (a .out % 65536) (y + 4294967296 * (a .into % 65536) + 281474976710656 * (a .out % 65536))) (sym (c .packed .ensures))
+    (arc-made (a .x) (a .into) (a .out) (c .before .pre))
 
 pub arc-spec : {M : Type 1} → statement M
 arc-spec =

@@ -7,7 +7,7 @@ use lib.ListN.{length, getD}
 use Rattle.aldlf.specs.Sheet.{noEdge}
 use Rattle.graph.specs.Configurations.{EdgeFits}
 use Rattle.graph.specs.Arcs.{Chained}
-use Rattle.graph.proofs.Arcs.{chained-none, heads-few, chained-more}
+use Rattle.graph.proofs.Arcs.{chained-none, chained-more}
 use native.Mathlib.Omega.{arith}
 use Rattle.graph.proofs.edges.chain_edges.Statement.{statement}
 use Rattle.graph.proofs.edges.chain_edges.Tie as tie
@@ -53,10 +53,10 @@ element-copy-out-x c = omega (arith, c .loop-test .taken, c .before .loop .inv .
 link-requires : tie.Need-link-requires Inv-loop μ-loop
 link-requires c κs =
     let S = c .before .before .before .before .before .before in
-    let l = c .before .before .before .loop in
-    let f = fits S (l .e - 1) (omega (arith, c .before .before .loop-test .taken)) (omega (arith, l .inv .1, c .before .before .loop-test .taken)) in
-    let h = heads-few (S .args .t1 .edges) (l .e - 1) _ _ (l .arcs) (before S (l .e) (l .arcs) (omega arith) (l .inv .3)) (omega (arith, l .inv .1, c .before .before .loop-test .taken)) (S .pre .0 .0) (room S (l .arcs) (l .inv .2)) refl f in
-    (f, (omega (arith, l .inv .1, c .before .before .loop-test .taken, S .pre .0 .0), room S (l .arcs) (l .inv .2), h .0, h .1))
+    let l = c .before .before .before .loop in (
+      fits S (l .e - 1) (omega (arith, c .before .before .loop-test .taken)) (omega (arith, l .inv .1, c .before .before .loop-test .taken)),
+      (omega (arith, l .inv .1, c .before .before .loop-test .taken, S .pre .0 .0), room S (l .arcs) (l .inv .2)),
+    )
 
 loop-less : tie.Need-loop-less Inv-loop μ-loop
 loop-less c = omega (arith, c .before .before .before .before .before .loop-test .taken)

@@ -106,12 +106,12 @@ first-into-requires : tie.Need-first-into-requires Inv-loop μ-loop
 first-into-requires c κs = let S = c .before .before .before .before .before .before .before .before .before in
     let s = c .before .before .numbered .ensures .0 in
     let m = state-fits S in
-    (omega arith, S .pre .0 .room, S .pre .0 .into .heads (c .before .before .numbered .result .state .0) (omega arith) .few)
+    (omega arith, S .pre .0 .room)
 
 loop-holds : tie.Need-loop-holds Inv-loop μ-loop
 loop-holds c = let S = c .before .before .before .before .before .before .before .before .before .before in
-    let k : c .first-into .result ≡ at (now (S .args .arcs)) (256 + here S % S .args .q .states) =
-    c .first-into .ensures ∙ ap (λ (x : ℕ). at (now (S .args .arcs)) (256 + x)) (c .before .before .before .numbered .ensures .0)
+    let k : c .first-into .result ≡ at (now (S .args .arcs)) (256 + here S % S .args .q .states) % 65536 =
+    c .first-into .ensures ∙ ap (λ (x : ℕ). at (now (S .args .arcs)) (256 + x) % 65536) (c .before .before .before .numbered .ensures .0)
     in
     let L = subst (Least (target S) (here S % S .args .q .states) (S .args .q .first) (last S)) (sym k) (S .pre .0 .into .heads (here S % S .args .q .states) (state-fits S)) in
     (L .above, L .hit, passed S _ _ _ _ _ L (turn-none (graph S) (now (S .args .dist)) (now (S .args .queue)) (S .args .turn .head) (S .args .turn .tail) (S .pre .1 .0 .0)))

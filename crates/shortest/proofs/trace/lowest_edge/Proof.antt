@@ -61,9 +61,7 @@ add-last : tie.Need-add-last Inv-loop μ-loop
 add-last c = omega (arith, c .before .before .before .before .pre .0 .few-edges)
 
 first-out-requires : tie.Need-first-out-requires Inv-loop μ-loop
-first-out-requires c κs = let S = c .before .before .before .before .before in
-    let m = state-fits S in
-    (m, S .pre .0 .room, S .pre .0 .out .heads _ m .few)
+first-out-requires c κs = let S = c .before .before .before .before .before in (state-fits S, S .pre .0 .room)
 
 loop-holds : tie.Need-loop-holds Inv-loop μ-loop
 loop-holds c = let S = c .before .before .before .before .before .before in
