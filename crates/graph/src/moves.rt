@@ -56,12 +56,12 @@ fn entry_before(dir: u8, j: u16, n: u16) -> u16
 }
 
 // The configuration from which e leads to its state at entry j, or FAR.
-pub fn prior(words: &[u64], e: Edge, states: u8, j: u16) -> u16
+pub fn prior(words: &[u64], e: Edge, states: u8, j: Entry) -> u16
     requires { ⌜ EdgeFits states e ⌝ }
-    requires { ⌜ (states ≤ stateLimit) × (length (now words) ≤ entryLimit) × (j < length (now words)) ⌝ }
-    ensures { λ r. ⌜ r ≡ priorOf (now (words .entry)) e states (e .to .0) j ⌝ }
+    requires { ⌜ (states ≤ stateLimit) × (length (now words) ≤ entryLimit) × (j .0 < length (now words)) ⌝ }
+    ensures { λ r. ⌜ r ≡ priorOf (now (words .entry)) e states (e .to .0) (j .0) ⌝ }
 {
-    let i = entry_before(e.dir, j, words.len() as u16);
+    let i = entry_before(e.dir, j.0, words.len() as u16);
     if i == FAR {
         return FAR;
     }
@@ -84,14 +84,14 @@ fn turned(dir: u8) -> u8
 }
 
 // The entry at which e arrives from entry i, or FAR.
-pub fn arrival(words: &[u64], e: Edge, i: u16) -> u16
-    requires { ⌜ (e .test .0 < nodeLimit) × (e .dir ≤ 2) × (length (now words) ≤ entryLimit) × (i < length (now words)) ⌝ }
-    ensures { λ r. ⌜ (r ≡ arrivalOf (now (words .entry)) e i) × ((r ≡ far → ⊥) → r < length (now (words .entry))) ⌝ }
+pub fn arrival(words: &[u64], e: Edge, i: Entry) -> u16
+    requires { ⌜ (e .test .0 < nodeLimit) × (e .dir ≤ 2) × (length (now words) ≤ entryLimit) × (i .0 < length (now words)) ⌝ }
+    ensures { λ r. ⌜ (r ≡ arrivalOf (now (words .entry)) e (i .0)) × ((r ≡ far → ⊥) → r < length (now (words .entry))) ⌝ }
 {
     let test = e.test;
-    if !reach::verdict(words[i as usize], test) {
+    if !reach::verdict(words[i.0 as usize], test) {
         return FAR;
     }
     let dir = turned(e.dir);
-    entry_before(dir, i, words.len() as u16)
+    entry_before(dir, i.0, words.len() as u16)
 }

@@ -78,7 +78,7 @@ fn relax_edges(
     let mut k = first_into(arcs, here.state);
     while k < last {
         let x = arcs[k as usize];
-        let p = prior(words, unpacked(x), q.states, here.entry.0);
+        let p = prior(words, unpacked(x), q.states, here.entry);
         tail = relax(p, d, tail, dist, queue);
         k = into(x);
     }

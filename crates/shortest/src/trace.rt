@@ -35,7 +35,8 @@ fn nearer(words: &[u64], dist: &[u16], e: Edge, states: u8, wanted: Wanted) -> u
     requires { ⌜ Inside states (length (now words)) (wanted .from) × (e .from .0 ≡ wanted .from .state .0) ⌝ }
     ensures { λ r. ⌜ Nearer (now (words .entry)) (now (dist .entry)) e states (numberOf states (wanted .from)) (wanted .distance) r ⌝ }
 {
-    let j = arrival(words, e, wanted.from.entry.0);
+    let from = wanted.from;
+    let j = arrival(words, e, from.entry);
     if j == FAR {
         return FAR;
     }

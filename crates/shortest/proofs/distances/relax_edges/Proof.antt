@@ -64,6 +64,14 @@ state-fits S = let m = mod-lt (here S) (S .pre .0 .some-state) in omega (arith, 
 entry-in : (S : Entry) → here S / S .args .q .states < length (now (S .args .words))
 entry-in S = div-lt-iff-lt-mul (S .pre .0 .some-state) .1 (searched S .placed (S .args .turn .head) (S .pre .1 .0 .0))
 
+-- what `prior` says of the unpacked edge, of the edge at its number
+told : (S : Entry) (k r j : ℕ) (x : Edge) → r ≡ priorOf (now (S .args .words)) x (S .args .q .states) (x .to .0) j → x ≡ unpackedOf (at (now (S .args .arcs)) k)
+    → target S k ≡ here S % S .args .q .states → j ≡ here S / S .args .q .states → r ≡ graph S .pre k (here S)
+told S k r j x p e t i =
+    p
+    ∙ (ap (λ (y : Edge). priorOf (now (S .args .words)) y (S .args .q .states) (y .to .0) j) e
+    ∙ ap₂ (λ (u v : ℕ). priorOf (now (S .args .words)) (unpackedOf (at (now (S .args .arcs)) k)) (S .args .q .states) u v) t i)
+
 -- from one edge into the state to the next
 passed : (S : Entry) (D Q : List ℕ) (k x t : ℕ) → Least (target S) (here S % S .args .q .states) k (last S) x
     → Turn (graph S) (now (S .args .dist)) (now (S .args .queue)) (S .args .turn .head) (S .args .turn .tail) D Q k t
@@ -161,9 +169,7 @@ loop-again c = let S = c .before .before .before .before .before .before .before
           (turn-more (graph S) (now (a .dist)) (now (a .queue)) (a .turn .head) (a .turn .tail) (l .dist) (l .queue) (l .k) (l .tail)
           (S .pre .1 .1 .0) (searched S) (l .inv .2) (l .inv .0) lt (c .before .before .before .before .before .before .before .before .prior .result)
           (at (now (a .dist)) (here S) + 1) (r .last .1 .1 .1 .0) (r .last .1 .1 .1 .1 .0) (r .result)
-          (c .before .before .before .before .before .before .before .before .prior .ensures
-          ∙ (ap (λ (x : Edge). priorOf (now (a .words)) x (a .q .states) (x .to .0) (c .before .before .before .before .before .before .before .before .before .before .before .before .before .before .before .before .numbered .result .entry .0)) (c .before .before .before .before .before .before .before .before .before .unpacked .ensures)
-          ∙ ap₂ (λ (x y : ℕ). priorOf (now (a .words)) (unpackedOf (at (now (a .arcs)) (l .k))) (a .q .states) x y) e (c .before .before .before .before .before .before .before .before .before .before .before .before .before .before .before .before .numbered .ensures .1)))
+          (told S (l .k) _ _ _ (c .before .before .before .before .before .before .before .before .prior .ensures) (c .before .before .before .before .before .before .before .before .before .unpacked .ensures) e (c .before .before .before .before .before .before .before .before .before .before .before .before .before .before .before .before .numbered .ensures .1))
           refl
           (r .ensures)),
     )
