@@ -13,7 +13,7 @@ use Rattle.graph.specs.Graph.{at}
 use Rattle.graph.specs.Arcs.{none, unpackedOf, intoOf, outOf, Arc, Chained, Linked}
 use Rattle.graph.specs.Configurations.{EdgeFits}
 use Rattle.graph.proofs.Chains.{chain-none, chain-more}
-use Rattle.graph.proofs.Cases.{same?, split}
+use Rattle.graph.proofs.Cases.{same?}
 
 -- the fields of an arc, one by one
 module _ (from to dir test into out : ℕ) (a : from < 16) (b : to < 16) (d : dir ≤ 2) (n : test < 64) (i : into < 65536) (o : out < 65536) where

@@ -1,7 +1,7 @@
 -- Chains of numbers by their keys: none yet, and one more at the head of its chain.
 use Prim.Native.Nat.{ℕ, _+_, _≤_, _<_}
 use native.Mathlib.Omega.{arith}
-use mathlib.Core.Path.{_≡_, refl, sym, subst, _∙_}
+use mathlib.Core.Path.{_≡_, sym, subst, _∙_}
 use mathlib.Core.Logic.{⊎-elim}
 use Rattle.graph.specs.Arcs.{Least, Chain}
 use Rattle.graph.proofs.Cases.{same?}

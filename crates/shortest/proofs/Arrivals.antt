@@ -7,7 +7,7 @@ use mathlib.Core.List.{List}
 use lib.ListN.{length}
 use Rattle.aldlf.specs.declared.Edge.{Edge}
 use Rattle.graph.specs.Graph.{far, at}
-use Rattle.graph.specs.Configurations.{arrivalOf, Moves, EdgeFits}
+use Rattle.graph.specs.Configurations.{arrivalOf, EdgeFits}
 use Rattle.graph.proofs.Steps.{arrival-moves, arrival-entry, arrival-number}
 use Rattle.shortest.specs.Descent.{Nearer}
 

@@ -41,10 +41,10 @@ module _ (G : Graph) (goal : ℕ → Type 0) (D Q : List ℕ) (h t : ℕ) where
         ranged = s .ranged;
       }
 
-  -- the edges below k + 1 are closed where those below k are and k is
-  again :
-      (k : ℕ) → Progress G goal D Q h k t → ((p : ℕ) → h < t → Step G p k (at Q h) → at D p ≤ at D (at Q h) + 1) → Progress G goal D Q h (k + 1) t
-  again k s here =
+  -- the edges below k2 are closed
+  closed-to :
+      (k k2 : ℕ) → Progress G goal D Q h k t → (h < t → (e p : ℕ) → e < k2 → Step G p e (at Q h) → at D p ≤ at D (at Q h) + 1) → Progress G goal D Q h k2 t
+  closed-to k k2 s here =
       record {
         whole = s .whole;
         room = s .room;
@@ -59,10 +59,14 @@ module _ (G : Graph) (goal : ℕ → Type 0) (D Q : List ℕ) (h t : ℕ) where
         walked = s .walked;
         goals = s .goals;
         closed = s .closed;
-        partly =
-            λ l e p el st. ⊎-elim (λ q. here p l (rw q at st)) (λ lt. s .partly l e p lt st) (split e k el);
+        partly = here;
         ranged = s .ranged;
       }
+
+  -- the edges below k + 1 are closed where those below k are and k is
+  again :
+      (k : ℕ) → Progress G goal D Q h k t → ((p : ℕ) → h < t → Step G p k (at Q h) → at D p ≤ at D (at Q h) + 1) → Progress G goal D Q h (k + 1) t
+  again k s here = closed-to k (k + 1) s (λ l e p el st. ⊎-elim (λ q. here p l (rw q at st)) (λ lt. s .partly l e p lt st) (split e k el))
 
   -- an edge that leads nowhere
   pub skip : (k : ℕ) → Progress G goal D Q h k t → G .size ≤ G .pre k (at Q h) → Progress G goal D Q h (k + 1) t
@@ -70,24 +74,7 @@ module _ (G : Graph) (goal : ℕ → Type 0) (D Q : List ℕ) (h t : ℕ) where
 
   -- edges that do not lead to the queue's place
   pub skip-to : (k k2 : ℕ) → Progress G goal D Q h k t → ((e p : ℕ) → k ≤ e → e < k2 → Step G p e (at Q h) → ⊥) → Progress G goal D Q h k2 t
-  skip-to k k2 s none =
-      record {
-        whole = s .whole;
-        room = s .room;
-        fits = s .fits;
-        head = s .head;
-        counted = s .counted;
-        placed = s .placed;
-        short = s .short;
-        queued = s .queued;
-        rising = s .rising;
-        near = s .near;
-        walked = s .walked;
-        goals = s .goals;
-        closed = s .closed;
-        partly = λ l e p el st. ⊎-elim (λ lt. s .partly l e p lt st) (λ le. absurd (none e p le el st)) (lt-or-le e k);
-        ranged = s .ranged;
-      }
+  skip-to k k2 s none = closed-to k k2 s (λ l e p el st. ⊎-elim (λ lt. s .partly l e p lt st) (λ le. absurd (none e p le el st)) (lt-or-le e k))
 
   -- a configuration that is marked is at most one further than the queue's head
   pub near-all : (k c : ℕ) → Progress G goal D Q h k t → h < t → c < G .size → (at D c ≡ far → ⊥) → at D c ≤ at D (at Q h) + 1

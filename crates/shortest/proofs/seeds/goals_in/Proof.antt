@@ -1,6 +1,5 @@
 -- `goals_in` meets its contract, by whether the node is as wanted. Assumes nothing.
-use Prim.Native.Nat.{ℕ}
-use mathlib.Core.Path.{_≡_, ap, sym, _∙_}
+use mathlib.Core.Path.{ap, sym, _∙_}
 use mathlib.Core.Bool.{Bool}
 use Rattle.aldlf.specs.Verdict.{facing}
 use Rattle.graph.specs.Configurations.{pickNat}

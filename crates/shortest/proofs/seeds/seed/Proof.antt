@@ -1,7 +1,6 @@
 -- `seed` meets its contract: the goals of the entries below j are marked. Assumes nothing.
 use Prim.Native.Nat.{ℕ, suc, _+_, _-_, _*_, _≤_, _<_}
 use mathlib.Core.Path.{_≡_, refl, sym, ap, subst, _∙_}
-use mathlib.Core.Bool.{Bool}
 use native.Mathlib.Nat.{add-mul, suc-mul, mul-le-mul-right}
 use denote.Ref.{now}
 use lib.ListN.{length}

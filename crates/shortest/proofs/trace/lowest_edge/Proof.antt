@@ -7,7 +7,7 @@ use lib.Arith.{digits-mod}
 use lib.ListN.{length}
 use Rattle.aldlf.specs.declared.Edge.{Edge}
 use Rattle.aldlf.proofs.Bools.{lt-or-le}
-use Rattle.graph.specs.Graph.{Graph, Step, far, at}
+use Rattle.graph.specs.Graph.{Graph, Step, at}
 use Rattle.graph.specs.Arcs.{unpackedOf, outOf, Least}
 use Rattle.graph.specs.Configurations.{graphOf, EdgeFits, Moves}
 use Rattle.graph.proofs.Cases.{split}

@@ -1,10 +1,10 @@
 -- `show` meets its contract, question by question. Assumes nothing.
-use Prim.Native.Nat.{ℕ, _<_, _*_, _≤_}
+use Prim.Native.Nat.{ℕ, _<_, _*_}
 use mathlib.Core.Path.{_≡_, refl, sym, ap, _∙_}
 use mathlib.Core.Logic.{inl, inr}
 use denote.Ref.{now}
 use lib.ListN.{length}
-use Rattle.graph.specs.Graph.{far, at}
+use Rattle.graph.specs.Graph.{at}
 use Rattle.graph.specs.Configurations.{startOf}
 use Rattle.graph.proofs.Steps.{start-in}
 use native.Mathlib.Omega.{arith}
