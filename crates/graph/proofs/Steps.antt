@@ -1,7 +1,7 @@
 -- An edge between configurations, seen from the one that it leads to and from the one that it leaves.
 use mathlib.Core.Path.{_≡_, refl, ap, ap₂, sym, _∙_, subst}
 use mathlib.Core.List.{List}
-use mathlib.Core.Bool.{true, false, false≢true}
+use mathlib.Core.Bool.{true, false}
 use mathlib.Core.Logic.{_⊎_, inl, inr, ⊎-elim}
 use Prim.Native.Nat.{ℕ, suc, _+_, _-_, _*_, _/_, _%_, _≤_, _<_}
 use native.Mathlib.Nat.{mul-le-mul, suc-mul, div-add-mod', div-lt-iff-lt-mul}
@@ -14,7 +14,8 @@ use Rattle.aldlf.specs.declared.Edge.{Edge}
 use Rattle.aldlf.specs.declared.Automaton.{Automaton}
 use Rattle.aldlf.proofs.Bools.{bool-cases, lt-or-le}
 use Rattle.graph.specs.Graph.{Step, Forward, far, at}
-use Rattle.graph.specs.Configurations.{entryBefore, priorOf, graphOf, unpackedOf, Goes, Moves, Next, turnedOf, startOf, EdgeFits, Ready}
+use Rattle.graph.specs.Arcs.{unpackedOf}
+use Rattle.graph.specs.Configurations.{entryBefore, priorOf, graphOf, Goes, Moves, turnedOf, arrivalOf, startOf, EdgeFits, Ready}
 use Rattle.graph.proofs.Cases.{same?}
 use Rattle.graph.proofs.Priors.{other-state, off-log, test-fails, test-holds as prior-at}
 
@@ -136,7 +137,7 @@ config-inside i states s n l k =
     omega arith
 
 -- the graph's edges are those of the automaton
-module _ (edges : List ℕ) (q : Automaton) (words : List ℕ) (r : Ready edges q words) where
+module _ (arcs : List ℕ) (q : Automaton) (words : List ℕ) (r : Ready arcs q words) where
   pub size-small : length words * q .states ≤ 8192
   size-small = mul-le-mul {n₂ = 512} {m₂ = 16} (r .few-words) (r .few-states)
 
@@ -144,66 +145,69 @@ module _ (edges : List ℕ) (q : Automaton) (words : List ℕ) (r : Ready edges 
   pub start-in : (i : ℕ) → i < length words → q .start .0 < q .states → startOf q i < length words * q .states
   start-in i l k = config-inside i (q .states) (q .start .0) (length words) l k
 
-  pub step-moves : (p e c : ℕ) → Step (graphOf edges q words) p e c → Moves words (unpackedOf (at edges e)) (q .states) p c
+  pub step-moves : (p e c : ℕ) → Step (graphOf arcs q words) p e c → Moves words (unpackedOf (at arcs e)) (q .states) p c
   step-moves p e c s =
-      prior-moves words (unpackedOf (at edges e)) (q .states) (r .each e (s .from-first) (s .below-last)) (r .few-words) p c
+      prior-moves words (unpackedOf (at arcs e)) (q .states) (r .each e (s .from-first) (s .below-last)) (r .few-words) p c
       (let a = s .source-in in let b = size-small in omega arith) (s .source)
 
   pub moves-step :
       (p e c : ℕ) → q .first ≤ e → e < q .first + q .count → p < length words * q .states → c < length words * q .states
-      → Moves words (unpackedOf (at edges e)) (q .states) p c → Step (graphOf edges q words) p e c
+      → Moves words (unpackedOf (at arcs e)) (q .states) p c → Step (graphOf arcs q words) p e c
   moves-step p e c l1 l2 pl cl m =
       record {
         from-first = l1;
         below-last = l2;
-        source = moves-prior words (unpackedOf (at edges e)) (q .states) (r .each e l1 l2) (r .few-words) p c (r .some-state) pl m;
+        source = moves-prior words (unpackedOf (at arcs e)) (q .states) (r .each e l1 l2) (r .few-words) p c (r .some-state) pl m;
         source-in = pl;
         target-in = cl;
       }
 
-  pub forward : Forward (graphOf edges q words)
-  forward p e c c2 a b = moves-one words (unpackedOf (at edges e)) (q .states) p c c2 (step-moves p e c a) (step-moves p e c2 b)
+  pub forward : Forward (graphOf arcs q words)
+  forward p e c c2 a b = moves-one words (unpackedOf (at arcs e)) (q .states) p c c2 (step-moves p e c a) (step-moves p e c2 b)
 
--- what `next` finds at each of its tests
-module _ (words : List ℕ) (e : Edge) (states c : ℕ) (fits : EdgeFits states e) (pos : 0 < states) (few : length words ≤ 512) where
-  none : ((q : ℕ) → q < length words * states → Moves words e states c q → ⊥) → Next words e states c far
-  none f = record { there = λ n. absurd (n refl); only = λ q l m. absurd (f q l m) }
+-- what `arrival` finds by its test
+module _ (words : List ℕ) (e : Edge) (i : ℕ) where
+  pub test-on : bit (at words i) (e .test .0) ≡ true → arrivalOf words e i ≡ entryBefore (turnedOf (e .dir)) i (length words)
+  unfolding arrivalOf
+  test-on b = rw b
 
-  pub next-state : (e .from .0 ≡ c % states → ⊥) → Next words e states c far
-  next-state ne = none (λ q l m. ne (m .from-state))
+  pub test-off : bit (at words i) (e .test .0) ≡ false → arrivalOf words e i ≡ far
+  unfolding arrivalOf
+  test-off b = rw b
 
-  pub next-test : bit (at words (c / states)) (e .test .0) ≡ false → Next words e states c far
-  next-test b = none (λ q l m. false≢true (sym b ∙ m .test-holds))
+-- from an entry at which the edge arrives to the configuration that it leads to, and back
+module _ (words : List ℕ) (e : Edge) (states s i : ℕ) (fits : EdgeFits states e) (from : e .from .0 ≡ s) where
+  inside : s < states
+  inside = omega (arith, fits .from-fits)
 
-  pub next-entry : (j : ℕ) → j ≡ entryBefore (turnedOf (e .dir)) (c / states) (length words) → j ≡ far → Next words e states c far
-  next-entry j ej f =
-      none
-      (λ q l m.
-      let ql : q / states < length words = div-lt-iff-lt-mul pos .1 l in
-      let g = before-goes (turnedOf (e .dir)) (c / states) (length words) (q / states) ql (turn-goes (e .dir) (c / states) (q / states) (m .goes)) in
-      omega arith)
+  entry-is : (i * states + s) / states ≡ i
+  entry-is = digits-div i inside
 
-  pub next-at :
-      (j d : ℕ) → e .from .0 ≡ c % states → bit (at words (c / states)) (e .test .0) ≡ true → d ≡ turnedOf (e .dir) → j ≡ entryBefore d (c / states) (length words) →
-      (j ≡ far → ⊥) → j < length words → Next words e states c (j * states + e .to .0)
-  next-at j d fr t ed ej nf jl =
-      record { there = λ n. (inside, moves); only = λ q l m. moves-one words e states c (j * states + e .to .0) q moves m }
+  turned-most : turnedOf (e .dir) ≤ 2
+  turned-most =
+      ⊎-elim (λ z. let a = turned-zero (e .dir) z in omega arith) (λ z. let a = turned-more (e .dir) z in omega arith) (same? (e .dir) 0)
+
+  pub arrival-moves : (j : ℕ) → j ≡ arrivalOf words e i → (j ≡ far → ⊥) → Moves words e states (i * states + s) (j * states + e .to .0)
+  arrival-moves j ej nf = go (bool-cases (bit (at words i) (e .test .0)))
     where
-      dl : turnedOf (e .dir) ≤ 2
-      dl =
-          ⊎-elim (λ z. let a = turned-zero (e .dir) z in omega arith) (λ z. let a = turned-more (e .dir) z in omega arith) (same? (e .dir) 0)
+      go : (bit (at words i) (e .test .0) ≡ true) ⊎ (bit (at words i) (e .test .0) ≡ false) → Moves words e states (i * states + s) (j * states + e .to .0)
+      go (inr b) = absurd (nf (ej ∙ test-off words e i b))
+      go (inl b) =
+          record {
+            from-state = from ∙ sym (digits-mod i inside);
+            to-state = sym (digits-mod j (fits .to-fits));
+            test-holds = ap (λ (x : ℕ). bit (at words x) (e .test .0)) entry-is ∙ b;
+            goes =
+                subst (λ (x : ℕ). Goes (e .dir) x ((j * states + e .to .0) / states)) (sym entry-is)
+                (subst (Goes (e .dir) i) (sym (digits-div j (fits .to-fits)))
+                (goes-turn (e .dir) i j (fits .dir-fits) (goes-before (turnedOf (e .dir)) i (length words) j turned-most (ej ∙ test-on words e i b) nf)));
+          }
 
-      dv : (j * states + e .to .0) / states ≡ j
-      dv = digits-div j (fits .to-fits)
+  pub arrival-entry : (q : ℕ) → 0 < states → q < length words * states → Moves words e states (i * states + s) q → arrivalOf words e i ≡ q / states
+  arrival-entry q pos l m =
+      let b : bit (at words i) (e .test .0) ≡ true = ap (λ (x : ℕ). bit (at words x) (e .test .0)) (sym entry-is) ∙ m .test-holds in
+      let g : Goes (e .dir) i (q / states) = subst (λ (x : ℕ). Goes (e .dir) x (q / states)) entry-is (m .goes) in
+      test-on words e i b ∙ before-goes (turnedOf (e .dir)) i (length words) (q / states) (div-lt-iff-lt-mul pos .1 l) (turn-goes (e .dir) i (q / states) g)
 
-      goes : Goes (e .dir) (c / states) ((j * states + e .to .0) / states)
-      goes =
-          subst (λ (x : ℕ). Goes (e .dir) (c / states) x) (sym dv)
-          (goes-turn (e .dir) (c / states) j (fits .dir-fits)
-          (goes-before (turnedOf (e .dir)) (c / states) (length words) j dl (ej ∙ ap (λ (x : ℕ). entryBefore x (c / states) (length words)) ed) nf))
-
-      moves : Moves words e states c (j * states + e .to .0)
-      moves = record { from-state = fr; to-state = sym (digits-mod j (fits .to-fits)); test-holds = t; goes = goes }
-
-      inside : j * states + e .to .0 < length words * states
-      inside = config-inside j states (e .to .0) (length words) jl (fits .to-fits)
+  pub arrival-number : (q : ℕ) → 0 < states → q < length words * states → Moves words e states (i * states + s) q → arrivalOf words e i * states + e .to .0 ≡ q
+  arrival-number q pos l m = ap₂ (λ (x y : ℕ). x * states + y) (arrival-entry q pos l m) (m .to-state) ∙ div-add-mod' q states

@@ -1,25 +1,17 @@
--- Only for the proofs of the code: edges packed into numbers, and the graph of configurations, each numbered entry times states plus state.
+-- Only for the proofs of the code: the graph of configurations, each numbered entry times states plus state.
 use Prim.Native.Nat.{ℕ, _+_, _-_, _*_, _/_, _%_, _≤_, _<_}
 use mathlib.Core.Path.{_≡_}
 use mathlib.Core.Logic.{_⊎_}
 use mathlib.Core.Bool.{Bool, true, false}
 use mathlib.Core.List.{List}
 use lib.Dec.{eqb, ltb}
-use lib.ListN.{length, getD}
+use lib.ListN.{length}
 use Rattle.aldlf.specs.Constants.{nodeLimit, stateLimit, edgeLimit, entryLimit}
-use Rattle.aldlf.specs.Sheet.{bit, noEdge}
+use Rattle.aldlf.specs.Sheet.{bit}
 use Rattle.aldlf.specs.declared.Edge.{Edge}
 use Rattle.aldlf.specs.declared.Automaton.{Automaton}
-use Rattle.reach.specs.Marks.{packedOf, fromOf, toOf, dirIn, testOf}
 use Rattle.graph.specs.Graph.{Graph, far, at}
-
--- The edge that is packed into a number.
-unfoldable pub unpackedOf : ℕ → Edge
-unpackedOf p = record { from = record { 0 = fromOf p }; dir = dirIn p; test = record { 0 = testOf p }; to = record { 0 = toOf p } }
-
--- The packed edges have at their numbers those of the table's from `first` on below `last`.
-pub record Packed (table : List Edge) (first last : ℕ) (edges : List ℕ) : Type 0 where
-  pub edge-is : (e : ℕ) → first ≤ e → e < last → at edges e ≡ packedOf (getD table e noEdge)
+use Rattle.graph.specs.Arcs.{unpackedOf, IntoChain, OutChain}
 
 -- The first of two numbers, or the second.
 abbrev pub pickNat : Bool → ℕ → ℕ → ℕ
@@ -43,17 +35,17 @@ priorOf words e states s j =
 
 -- The graph of configurations of so many states, with the edges from number `first` on below `last`.
 abbrev pub spanGraph : List ℕ → (states first last : ℕ) → List ℕ → Graph
-spanGraph edges states first last words =
+spanGraph arcs states first last words =
     record {
       size = length words * states;
       first = first;
       last = last;
-      pre = λ e c. priorOf words (unpackedOf (at edges e)) states (c % states) (c / states);
+      pre = λ e c. priorOf words (unpackedOf (at arcs e)) states (c % states) (c / states);
     }
 
 -- The graph of an automaton's configurations.
 abbrev pub graphOf : List ℕ → Automaton → List ℕ → Graph
-graphOf edges q words = spanGraph edges (q .states) (q .first) (q .first + q .count) words
+graphOf arcs q words = spanGraph arcs (q .states) (q .first) (q .first + q .count) words
 
 -- The configuration in which the walks from entry i start.
 abbrev pub startOf : Automaton → ℕ → ℕ
@@ -66,14 +58,16 @@ pub record EdgeFits (states : ℕ) (e : Edge) : Type 0 where
   pub test-fits : e .test .0 < nodeLimit
   pub dir-fits : e .dir ≤ 2
 
--- What the search needs of the packed edges, the automaton and the verdict words.
-pub record Ready (edges : List ℕ) (q : Automaton) (words : List ℕ) : Type 0 where
+-- What the search needs of the chained edges, the automaton and the verdict words.
+pub record Ready (arcs : List ℕ) (q : Automaton) (words : List ℕ) : Type 0 where
   pub some-state : 0 < q .states
   pub few-states : q .states ≤ stateLimit
   pub few-words : length words ≤ entryLimit
   pub few-edges : q .first + q .count ≤ edgeLimit
-  pub room : q .first + q .count ≤ length edges
-  pub each : (e : ℕ) → q .first ≤ e → e < q .first + q .count → EdgeFits (q .states) (unpackedOf (at edges e))
+  pub room : 288 ≤ length arcs
+  pub each : (e : ℕ) → q .first ≤ e → e < q .first + q .count → EdgeFits (q .states) (unpackedOf (at arcs e))
+  pub into : IntoChain arcs (q .first) (q .first + q .count)
+  pub out : OutChain arcs (q .first) (q .first + q .count)
 
 -- An edge of direction d leads from entry i to entry j.
 abbrev pub Goes : ℕ → ℕ → ℕ → Type 0
@@ -90,7 +84,10 @@ pub record Moves (words : List ℕ) (e : Edge) (states p q : ℕ) : Type 0 where
 abbrev pub turnedOf : ℕ → ℕ
 turnedOf d = pickNat (eqb d 0) 0 (3 - d)
 
--- r is the configuration to which e leads from c, or far.
-pub record Next (words : List ℕ) (e : Edge) (states c r : ℕ) : Type 0 where
-  pub there : (r ≡ far → ⊥) → (r < length words * states) × Moves words e states c r
-  pub only : (q : ℕ) → q < length words * states → Moves words e states c q → r ≡ q
+-- The entry at which e arrives from entry i, or far.
+unfoldable pub arrivalOf : List ℕ → Edge → ℕ → ℕ
+arrivalOf words e i = pickNat (bit (at words i) (e .test .0)) (entryBefore (turnedOf (e .dir)) i (length words)) far
+
+-- A division by the count of states as a multiplication by this number and a division by 262,144.
+abbrev pub reciprocalOf : ℕ → ℕ
+reciprocalOf states = 262144 / states + 1

@@ -3,19 +3,39 @@ use aldlf::Edge;
 use aldlf::Entry;
 use aldlf::State;
 ghost use mathlib.Core.Path.{_≡_};
-ghost use Prim.Native.Nat.{_*_, _≤_, _<_};
+ghost use Prim.Native.Nat.{_/_, _%_, _≤_, _<_};
 ghost use lib.ListN.{length};
-ghost use Rattle.aldlf.specs.Constants.{stateLimit, entryLimit};
+ghost use Rattle.aldlf.specs.Constants.{nodeLimit, stateLimit, entryLimit};
 ghost use Rattle.graph.specs.Graph.{far};
-ghost use Rattle.graph.specs.Configurations.{entryBefore, priorOf, turnedOf, EdgeFits, Next};
+ghost use Rattle.graph.specs.Configurations.{entryBefore, priorOf, turnedOf, arrivalOf, reciprocalOf, EdgeFits};
 
-// No configuration; and, as a distance, not reached.
+// No configuration, no entry; and, as a distance, not reached.
 pub const FAR: u16 = 65535;
 
 // A configuration by its two numbers.
 pub struct Configuration {
     pub state: State,
     pub entry: Entry,
+}
+
+// What stands for the count of states in `numbered`.
+pub fn reciprocal(states: u16) -> u32
+    requires { ⌜ (0 < states) × (states ≤ stateLimit) ⌝ }
+    ensures { λ r. ⌜ r ≡ reciprocalOf states ⌝ }
+{
+    262144 / (states as u32) + 1
+}
+
+// The configuration of a number. A multiplication by the reciprocal stands in for the division, which would take longer than the rest of a step.
+pub fn numbered(c: u16, states: u16, reciprocal: u32) -> Configuration
+    requires { ⌜ (c < 8192) × (0 < states) × (states ≤ stateLimit) × (reciprocal ≡ reciprocalOf states) ⌝ }
+    ensures { λ r. ⌜ (r .state .0 ≡ c % states) × (r .entry .0 ≡ c / states) ⌝ }
+{
+    let j = ((c as u32) * reciprocal / 262144) as u16;
+    Configuration {
+        state: State((c - j * states) as u8),
+        entry: Entry(j),
+    }
 }
 
 // The entry that an edge of this direction leaves to arrive at j, or FAR.
@@ -35,16 +55,13 @@ fn entry_before(dir: u8, j: u16, n: u16) -> u16
     if j + 1 < n { j + 1 } else { FAR }
 }
 
-// The configuration from which e leads to c, or FAR.
-pub fn prior(words: &[u64], e: Edge, states: u16, c: Configuration) -> u16
+// The configuration from which e leads to its state at entry j, or FAR.
+pub fn prior(words: &[u64], e: Edge, states: u8, j: Entry) -> u16
     requires { ⌜ EdgeFits states e ⌝ }
-    requires { ⌜ (states ≤ stateLimit) × (length (now words) ≤ entryLimit) × (c .entry .0 < length (now words)) ⌝ }
-    ensures { λ r. ⌜ r ≡ priorOf (now (words .entry)) e states (c .state .0) (c .entry .0) ⌝ }
+    requires { ⌜ (states ≤ stateLimit) × (length (now words) ≤ entryLimit) × (j .0 < length (now words)) ⌝ }
+    ensures { λ r. ⌜ r ≡ priorOf (now (words .entry)) e states (e .to .0) (j .0) ⌝ }
 {
-    if e.to.0 != c.state.0 {
-        return FAR;
-    }
-    let i = entry_before(e.dir, c.entry.0, words.len() as u16);
+    let i = entry_before(e.dir, j.0, words.len() as u16);
     if i == FAR {
         return FAR;
     }
@@ -52,7 +69,7 @@ pub fn prior(words: &[u64], e: Edge, states: u16, c: Configuration) -> u16
     if !reach::verdict(words[i as usize], test) {
         return FAR;
     }
-    i * states + (e.from.0 as u16)
+    i * (states as u16) + (e.from.0 as u16)
 }
 
 // Ahead for back, and back for ahead.
@@ -66,25 +83,15 @@ fn turned(dir: u8) -> u8
     3 - dir
 }
 
-// The configuration to which e leads from c, or FAR.
-pub fn next(words: &[u64], e: Edge, states: u16, c: u16) -> u16
-    requires { ⌜ EdgeFits states e ⌝ }
-    requires { ⌜ (0 < states) × (states ≤ stateLimit) × (length (now words) ≤ entryLimit) × (c < length (now words) * states) ⌝ }
-    ensures { λ r. ⌜ Next (now (words .entry)) e states c r ⌝ }
+// The entry at which e arrives from entry i, or FAR.
+pub fn arrival(words: &[u64], e: Edge, i: Entry) -> u16
+    requires { ⌜ (e .test .0 < nodeLimit) × (e .dir ≤ 2) × (length (now words) ≤ entryLimit) × (i .0 < length (now words)) ⌝ }
+    ensures { λ r. ⌜ (r ≡ arrivalOf (now (words .entry)) e (i .0)) × ((r ≡ far → ⊥) → r < length (now (words .entry))) ⌝ }
 {
-    let from = e.from.0 as u16;
-    if from != c % states {
-        return FAR;
-    }
-    let i = c / states;
     let test = e.test;
-    if !reach::verdict(words[i as usize], test) {
+    if !reach::verdict(words[i.0 as usize], test) {
         return FAR;
     }
     let dir = turned(e.dir);
-    let j = entry_before(dir, i, words.len() as u16);
-    if j == FAR {
-        return FAR;
-    }
-    j * states + (e.to.0 as u16)
+    entry_before(dir, i.0, words.len() as u16)
 }

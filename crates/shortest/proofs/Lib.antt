@@ -2,5 +2,6 @@ pub mod Marked
 pub mod Progress
 pub mod Greedy
 pub mod Turns
-pub mod Seeds
+pub mod Goals
+pub mod Arrivals
 pub mod Traced

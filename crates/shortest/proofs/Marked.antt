@@ -1,5 +1,5 @@
 -- How many numbers of a list are not `far`.
-use mathlib.Core.Path.{_≡_, ap}
+use mathlib.Core.Path.{_≡_, refl, ap}
 use mathlib.Core.List.{List, [], _∷_}
 use mathlib.Core.Bool.{Bool, true, false}
 use Prim.Native.Nat.{ℕ, zero, suc, _≤_, _<_}
@@ -28,6 +28,11 @@ pub marked-lt : (l : List ℕ) (i : ℕ) → i < length l → at l i ≡ far →
 marked-lt [] i h e = absurd (not-suc-le-zero h)
 marked-lt (x ∷ l) zero h e = rw (eq-eqb x far e) (let k = marked-le l in omega arith)
 marked-lt (x ∷ l) (suc i) h e = pick-lt (eqb x far) (marked l) (length l) (marked-lt l i (le-of-suc-le-suc h) e)
+
+-- where all are far, none is marked
+pub marked-none : (l : List ℕ) → ((i : ℕ) → i < length l → at l i ≡ far) → marked l ≡ 0
+marked-none [] f = refl
+marked-none (x ∷ l) f = rw (eq-eqb x far (f 0 (omega arith))) (marked-none l (λ i h. f (suc i) (omega arith)))
 
 pick-suc : (b : Bool) (n m : ℕ) → n ≡ suc m → pick b n ≡ suc (pick b m)
 pick-suc true n m e = e

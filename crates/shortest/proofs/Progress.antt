@@ -7,6 +7,7 @@ use native.Mathlib.Numerals.{add-one}
 use native.Mathlib.Omega.{arith}
 use lib.ListN.{length, set, length-set}
 use lib.Seq.{getD-set-same, getD-set-other}
+use Rattle.aldlf.proofs.Bools.{lt-or-le}
 use Rattle.graph.specs.Graph.{Graph, Step, Walk, far, at}
 use Rattle.graph.proofs.Cases.{split, same?}
 use Rattle.shortest.specs.Progress.{Progress}
@@ -40,10 +41,10 @@ module _ (G : Graph) (goal : ℕ → Type 0) (D Q : List ℕ) (h t : ℕ) where
         ranged = s .ranged;
       }
 
-  -- the edges below k + 1 are closed where those below k are and k is
-  again :
-      (k : ℕ) → Progress G goal D Q h k t → ((p : ℕ) → h < t → Step G p k (at Q h) → at D p ≤ at D (at Q h) + 1) → Progress G goal D Q h (k + 1) t
-  again k s here =
+  -- the edges below k2 are closed
+  closed-to :
+      (k k2 : ℕ) → Progress G goal D Q h k t → (h < t → (e p : ℕ) → e < k2 → Step G p e (at Q h) → at D p ≤ at D (at Q h) + 1) → Progress G goal D Q h k2 t
+  closed-to k k2 s here =
       record {
         whole = s .whole;
         room = s .room;
@@ -58,17 +59,25 @@ module _ (G : Graph) (goal : ℕ → Type 0) (D Q : List ℕ) (h t : ℕ) where
         walked = s .walked;
         goals = s .goals;
         closed = s .closed;
-        partly =
-            λ l e p el st. ⊎-elim (λ q. here p l (rw q at st)) (λ lt. s .partly l e p lt st) (split e k el);
+        partly = here;
         ranged = s .ranged;
       }
+
+  -- the edges below k + 1 are closed where those below k are and k is
+  again :
+      (k : ℕ) → Progress G goal D Q h k t → ((p : ℕ) → h < t → Step G p k (at Q h) → at D p ≤ at D (at Q h) + 1) → Progress G goal D Q h (k + 1) t
+  again k s here = closed-to k (k + 1) s (λ l e p el st. ⊎-elim (λ q. here p l (rw q at st)) (λ lt. s .partly l e p lt st) (split e k el))
 
   -- an edge that leads nowhere
   pub skip : (k : ℕ) → Progress G goal D Q h k t → G .size ≤ G .pre k (at Q h) → Progress G goal D Q h (k + 1) t
   skip k s out = again k s (λ p l st. absurd (let a = st .source in let b = st .source-in in omega arith))
 
+  -- edges that do not lead to the queue's place
+  pub skip-to : (k k2 : ℕ) → Progress G goal D Q h k t → ((e p : ℕ) → k ≤ e → e < k2 → Step G p e (at Q h) → ⊥) → Progress G goal D Q h k2 t
+  skip-to k k2 s none = closed-to k k2 s (λ l e p el st. ⊎-elim (λ lt. s .partly l e p lt st) (λ le. absurd (none e p le el st)) (lt-or-le e k))
+
   -- a configuration that is marked is at most one further than the queue's head
-  near-all : (k c : ℕ) → Progress G goal D Q h k t → h < t → c < G .size → (at D c ≡ far → ⊥) → at D c ≤ at D (at Q h) + 1
+  pub near-all : (k c : ℕ) → Progress G goal D Q h k t → h < t → c < G .size → (at D c ≡ far → ⊥) → at D c ≤ at D (at Q h) + 1
   near-all k c s l cin ne =
       let r = s .ranged c cin in
       let q = s .queued c cin (omega arith) in
@@ -239,13 +248,29 @@ module _ (G : Graph) (goal : ℕ → Type 0) (D Q : List ℕ) (t : ℕ) where
       let b = near-size k (v .0) s (v .1 .target-in) a in
       omega (arith, along k c e (v .0) s (v .1), s .fits)
 
-  pub done : (k : ℕ) → Progress G goal D Q t k t → Distances G goal D
-  done k s =
-      record {
-        whole = s .whole;
-        walked = s .walked;
-        least = least k s;
-        short = λ c cin m. near-size k c s cin m;
-        ranged = s .ranged;
-        reached = reached k s;
-      }
+  -- every place is closed: D has every distance
+  pub done : (k c : ℕ) → c < G .size → Progress G goal D Q t k t → Distances G goal D c
+  done k c cin s =
+      record { whole = s .whole; walked = s .walked; least = λ w p pin v l. least k s w p pin v; reached = λ w v. reached k s w c cin v }
+
+-- c is reached: whatever is nearer has its distance, for its place in the queue is closed
+module _ (G : Graph) (goal : ℕ → Type 0) (D Q : List ℕ) (h k t c : ℕ) (s : Progress G goal D Q h k t) (l : h < t) (cin : c < G .size) (m : at D c ≡ far → ⊥) where
+  before-head : (x : ℕ) → x < G .size → at D x + 1 < at D c → (i : ℕ) × (i < h) × (at Q i ≡ x)
+  before-head x xin near =
+      let a = near-all G goal D Q h t k c s l cin m in
+      let r = s .ranged c cin in
+      let q = s .queued x xin (omega arith) in
+      let b : at D (at Q (q .0)) ≡ at D x = ap (at D) (q .2) in
+      (q .0, ⊎-elim (λ lt. lt) (λ le. absurd (let z = s .rising h (q .0) le (q .1) in omega arith)) (lt-or-le (q .0) h), q .2)
+
+  nearer-least : (w : List ℕ) (p : ℕ) → p < G .size → Walk G goal w p → length w < at D c → at D p ≤ length w
+  nearer-least [] p pin g n = rw (s .goals p pin g) (omega arith)
+  nearer-least (e ∷ w) p pin v n =
+      let a : at D (v .0) ≤ length w = nearer-least w (v .0) (v .1 .target-in) (v .2) (omega arith) in
+      let i = before-head (v .0) (v .1 .target-in) (omega arith) in
+      let z = s .closed (i .0) e p (i .1) (subst (Step G p e) (sym (i .2)) (v .1)) in
+      let y : at D (at Q (i .0)) ≡ at D (v .0) = ap (at D) (i .2) in
+      omega arith
+
+  pub stopped : Distances G goal D c
+  stopped = record { whole = s .whole; walked = s .walked; least = nearer-least; reached = λ w v. let r = s .ranged c cin in omega arith }

@@ -12,7 +12,7 @@ use Rattle.graph.specs.Graph.{Graph, Step, far, at}
 use Rattle.graph.specs.Configurations.{pickNat}
 use Rattle.shortest.specs.Progress.{Progress, Relaxed, fresh, zeroIn, pickList}
 use Rattle.shortest.proofs.Marked.{marked-lt}
-use Rattle.shortest.proofs.Progress.{skip, seen, push, old, q-old}
+use Rattle.shortest.proofs.Progress.{skip, skip-to, seen, push, old, q-old}
 
 pub fresh-out : (D : List ℕ) (p : ℕ) → length D ≤ p → fresh D p ≡ false
 fresh-out D p l = rw (le-ltb p (length D) l)
@@ -56,6 +56,18 @@ pub record Turn (G : Graph) (D₁ Q₁ : List ℕ) (h t₁ : ℕ) (D Q : List �
 pub turn-none : (G : Graph) (D Q : List ℕ) (h t : ℕ) → h < t → Turn G D Q h t D Q (G .first) t
 turn-none G D Q h t l = record { long = refl; wide = refl; top = refl; deep = refl; after = l; search = λ Z s. s }
 
+-- nothing is marked, and the search comes further
+turn-by : (G : Graph) (D₁ Q₁ : List ℕ) (h t₁ : ℕ) (D Q : List ℕ) (k k2 t : ℕ) → Turn G D₁ Q₁ h t₁ D Q k t
+    → ((Z : List ℕ) → Progress G (zeroIn Z) D Q h k t → Progress G (zeroIn Z) D Q h k2 t) → Turn G D₁ Q₁ h t₁ D Q k2 t
+turn-by G D₁ Q₁ h t₁ D Q k k2 t u further =
+    record { long = u .long; wide = u .wide; top = u .top; deep = u .deep; after = u .after; search = λ Z a. further Z (u .search Z a) }
+
+-- edges that do not lead to the queue's place are passed over
+pub turn-skip : (G : Graph) (D₁ Q₁ : List ℕ) (h t₁ : ℕ) (D Q : List ℕ) (k k2 t : ℕ) → Turn G D₁ Q₁ h t₁ D Q k t → ((e p : ℕ) → k ≤ e → e < k2 → Step G p e (at Q₁ h) → ⊥)
+    → Turn G D₁ Q₁ h t₁ D Q k2 t
+turn-skip G D₁ Q₁ h t₁ D Q k k2 t u none =
+    turn-by G D₁ Q₁ h t₁ D Q k k2 t u (λ Z s. skip-to G (zeroIn Z) D Q h t k k2 s (λ e p le lt st. none e p le lt (subst (Step G p e) (u .top) st)))
+
 module _
     (G : Graph)
     (D₁ Q₁ : List ℕ)
@@ -76,16 +88,8 @@ module _
 
   turn-stay : G .size ≤ G .pre k (at Q h) ⊎ (at D (G .pre k (at Q h)) ≡ far → ⊥) → Turn G D₁ Q₁ h t₁ D Q (k + 1) t
   turn-stay w =
-      record {
-        long = u .long;
-        wide = u .wide;
-        top = u .top;
-        deep = u .deep;
-        after = u .after;
-        search =
-            λ Z2 a.
-            ⊎-elim (λ o. skip G (zeroIn Z2) D Q h t k (u .search Z2 a) o) (λ ne. seen G (zeroIn Z2) D Q h t k (u .search Z2 a) ne) w;
-      }
+      turn-by G D₁ Q₁ h t₁ D Q k (k + 1) t u
+      (λ Z2 s. ⊎-elim (λ o. skip G (zeroIn Z2) D Q h t k s o) (λ ne. seen G (zeroIn Z2) D Q h t k s ne) w)
 
   turn-push :
       (p : ℕ) → G .pre k (at Q h) ≡ p → p < G .size → at D p ≡ far → Turn G D₁ Q₁ h t₁ (set D p (at D (at Q h) + 1)) (set Q t p) (k + 1) (t + 1)

@@ -4,7 +4,7 @@ use mathlib.Core.List.{List, [], _∷_}
 use mathlib.Core.Bool.{Bool, true, false, _&&_}
 use Prim.Native.Nat.{ℕ, suc, _+_, _≤_, _<_}
 use lib.Dec.{eqb, ltb}
-use lib.ListN.{length, set, take}
+use lib.ListN.{length, set}
 use Rattle.graph.specs.Graph.{Graph, Step, Walk, far, at}
 use Rattle.graph.specs.Configurations.{pickNat}
 
@@ -55,16 +55,17 @@ pub record Relaxed (D Q : List ℕ) (p d t : ℕ) (D2 Q2 : List ℕ) (t2 : ℕ) 
   pub queue : Q2 ≡ pickList (fresh D p) (set Q t p) Q
   pub tail : t2 ≡ pickNat (fresh D p) (t + 1) t
 
--- place c of the distances set by whether it is a goal, and the goals put into the queue
+-- c marked at distance 0 where it is a goal: the distances, the queue and its length
 pub record Put (D Q : List ℕ) (goal : Bool) (c t : ℕ) (D2 Q2 : List ℕ) (t2 : ℕ) : Type 0 where
-  pub dist : D2 ≡ set D c (pickNat goal 0 far)
+  pub dist : D2 ≡ pickList goal (set D c 0) D
   pub queue : Q2 ≡ pickList goal (set Q t c) Q
   pub tail : t2 ≡ pickNat goal (t + 1) t
 
--- of the configurations below c those that are goals have 0 and stand in the queue, and the others have far
+-- of the configurations below c those that are goals have 0 and stand in the queue, and all others have far
 pub record Seeded (goal : ℕ → Bool) (D Q : List ℕ) (c t : ℕ) : Type 0 where
   pub few : t ≤ c
   pub set-to : (i : ℕ) → i < c → at D i ≡ pickNat (goal i) 0 far
-  pub counted : marked (take c D) ≡ t
+  pub rest : (i : ℕ) → c ≤ i → i < length D → at D i ≡ far
+  pub counted : marked D ≡ t
   pub placed : (i : ℕ) → i < t → (at Q i < c) × (goal (at Q i) ≡ true)
   pub queued : (i : ℕ) → i < c → goal i ≡ true → (j : ℕ) × (j < t) × (at Q j ≡ i)

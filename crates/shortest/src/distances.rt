@@ -1,26 +1,36 @@
-// The distance of each configuration to the goals, breadth first from the goals backward. Each configuration enters the queue once.
-use super::Goal;
+// The distances of configurations to the goals, breadth first from the goals backward, until the walk's start is reached. Each configuration enters
+// the queue once, and only the edges into its state are looked at.
+use super::Query;
+use super::seeds::seed;
+use super::start_of;
 use aldlf::Automaton;
-use aldlf::Entry;
-use aldlf::State;
+use graph::edges::first_into;
+use graph::edges::into;
 use graph::edges::unpacked;
-use graph::moves::Configuration;
 use graph::moves::FAR;
+use graph::moves::numbered;
 use graph::moves::prior;
+use graph::moves::reciprocal;
 ghost use mathlib.Core.Path.{_≡_};
 ghost use mathlib.Core.List.{List};
 ghost use Prim.Native.Nat.{ℕ, _+_, _*_, _≤_, _<_};
 ghost use lib.ListN.{length};
-ghost use Rattle.aldlf.specs.Constants.{nodeLimit, stateLimit};
 ghost use Rattle.graph.specs.Graph.{at, far};
-ghost use Rattle.graph.specs.Configurations.{graphOf, Ready};
-ghost use Rattle.shortest.specs.Progress.{Progress, Relaxed, Put, Seeded, zeroIn};
-ghost use Rattle.shortest.specs.Goals.{goalAt, GoalAt};
+ghost use Rattle.graph.specs.Configurations.{graphOf, startOf, reciprocalOf, Ready};
+ghost use Rattle.shortest.specs.Progress.{Progress, Relaxed, zeroIn};
+ghost use Rattle.shortest.specs.Goals.{GoalAt, Asked};
 ghost use Rattle.shortest.specs.Descent.{Distances};
 
-// The queue's places in use: the next one to take, and the first free one.
-pub(crate) struct Queue {
+// A turn of the search: the queue's place to take, its first free place, and what stands for the count of states in `numbered`.
+pub(crate) struct Turn {
     pub(crate) head: u16,
+    pub(crate) tail: u16,
+    pub(crate) reciprocal: u32,
+}
+
+// What a search begins with: the configuration to be reached, and how many goals the queue has.
+pub(crate) struct Begun {
+    pub(crate) start: u16,
     pub(crate) tail: u16,
 }
 
@@ -43,120 +53,82 @@ fn relax(p: u16, d: u16, tail: u16, dist: &mut [u16], queue: &mut [u16]) -> u16
 
 // Mark all configurations one edge before the queue's head; the queue's new tail.
 fn relax_edges(
-    edges: &[u32],
+    arcs: &[u64],
     words: &[u64],
     q: Automaton,
-    ends: Queue,
+    turn: Turn,
     dist: &mut [u16],
     queue: &mut [u16],
 ) -> u16
-    requires { ⌜ Ready (now edges) q (now words) ⌝ }
-    requires { ⌜ ends .head < ends .tail ⌝ }
-    requires { ⌜ ((G : List ℕ) × Progress (graphOf (now edges) q (now words)) (zeroIn G) (now dist) (now queue) (ends .head) (q .first) (ends .tail)) ⌝ }
-    ensures { λ r. ⌜ ends .head < r ⌝ }
+    requires { ⌜ Ready (now arcs) q (now words) ⌝ }
+    requires { ⌜ (turn .head < turn .tail) × (turn .reciprocal ≡ reciprocalOf (q .states)) ⌝ }
+    requires { ⌜ ((G : List ℕ) × Progress (graphOf (now arcs) q (now words)) (zeroIn G) (now dist) (now queue) (turn .head) (q .first) (turn .tail)) ⌝ }
+    ensures { λ r. ⌜ turn .head < r ⌝ }
     ensures { λ r. ⌜ ((G : List ℕ) →
-        Progress (graphOf (now (edges .entry)) q (now (words .entry))) (zeroIn G) (now (dist .entry)) (now (queue .entry)) (ends .head) (q .first) (ends .tail) →
-        Progress (graphOf (now (edges .entry)) q (now (words .entry))) (zeroIn G) (now (dist .exit)) (now (queue .exit)) (ends .head) (q .first + q .count) r) ⌝ }
+        Progress (graphOf (now (arcs .entry)) q (now (words .entry))) (zeroIn G) (now (dist .entry)) (now (queue .entry)) (turn .head) (q .first) (turn .tail) →
+        Progress (graphOf (now (arcs .entry)) q (now (words .entry))) (zeroIn G) (now (dist .exit)) (now (queue .exit)) (turn .head) (q .first + q .count) r) ⌝ }
 {
     let states = q.states as u16;
-    let head = ends.head;
+    let head = turn.head;
     let c = queue[head as usize];
-    let here = Configuration {
-        state: State((c % states) as u8),
-        entry: Entry(c / states),
-    };
+    let here = numbered(c, states, turn.reciprocal);
     let d = dist[c as usize] + 1;
     let last = q.first + q.count;
-    let mut tail = ends.tail;
-    let mut i = q.first;
-    while i < last {
-        let p = prior(words, unpacked(edges[i as usize]), states, here);
+    let mut tail = turn.tail;
+    let mut k = first_into(arcs, here.state);
+    while k < last {
+        let x = arcs[k as usize];
+        let p = prior(words, unpacked(x), q.states, here.entry);
         tail = relax(p, d, tail, dist, queue);
-        i += 1;
+        k = into(x);
     }
     tail
 }
 
-// All distances, from the goals in the queue's first places.
+// The distance of the start and of what is nearer, from the goals in the queue's first places.
 fn spread(
-    edges: &[u32],
+    arcs: &[u64],
     words: &[u64],
     q: Automaton,
-    start: u16,
+    begun: Begun,
     dist: &mut [u16],
     queue: &mut [u16],
 )
-    requires { ⌜ Ready (now edges) q (now words) ⌝ }
-    requires { ⌜ Progress (graphOf (now edges) q (now words)) (zeroIn (now dist)) (now dist) (now queue) 0 (q .first) start ⌝ }
-    ensures { λ _. ⌜ Distances (graphOf (now (edges .entry)) q (now (words .entry))) (zeroIn (now (dist .entry))) (now (dist .exit)) ⌝ }
+    requires { ⌜ Ready (now arcs) q (now words) ⌝ }
+    requires { ⌜ begun .start < length (now dist) ⌝ }
+    requires { ⌜ Progress (graphOf (now arcs) q (now words)) (zeroIn (now dist)) (now dist) (now queue) 0 (q .first) (begun .tail) ⌝ }
+    ensures { λ _. ⌜ Distances (graphOf (now (arcs .entry)) q (now (words .entry))) (zeroIn (now (dist .entry))) (now (dist .exit)) (begun .start) ⌝ }
 {
+    let start = begun.start as usize;
+    let by = reciprocal(q.states as u16);
     let mut head: u16 = 0;
-    let mut tail = start;
+    let mut tail = begun.tail;
     while head < tail {
-        tail = relax_edges(edges, words, q, Queue { head, tail }, dist, queue);
+        if dist[start] != FAR {
+            return;
+        }
+        let turn = Turn {
+            head,
+            tail,
+            reciprocal: by,
+        };
+        tail = relax_edges(arcs, words, q, turn, dist, queue);
         head += 1;
     }
 }
 
-// Is the configuration c a goal?
-fn is_goal(words: &[u64], q: Automaton, goal: Goal, c: u16) -> bool
-    requires { ⌜ (0 < q .states) × (q .states ≤ stateLimit) × (goal .node .0 < nodeLimit) × (c < length (now words) * q .states) ⌝ }
-    ensures { λ r. ⌜ r ≡ goalAt (now (words .entry)) q goal c ⌝ }
+// The distance of the query's start to its goals, and of every configuration that is nearer; FAR where there is no walk. No configuration is marked yet.
+pub fn distances(arcs: &[u64], words: &[u64], query: Query, dist: &mut [u16], queue: &mut [u16])
+    requires { ⌜ Ready (now arcs) (query .automaton) (now words) ⌝ }
+    requires { ⌜ Asked query (length (now words)) ⌝ }
+    requires { ⌜ (length (now dist) ≡ length (now words) * query .automaton .states) × (length (now dist) ≤ length (now queue)) ⌝ }
+    requires { ⌜ ((i : ℕ) → i < length (now dist) → at (now dist) i ≡ far) ⌝ }
+    ensures { λ _. ⌜ Distances (graphOf (now (arcs .entry)) (query .automaton) (now (words .entry))) (GoalAt (now (words .entry)) (query .automaton) (query .goal))
+        (now (dist .exit)) (startOf (query .automaton) (query .entry .0)) ⌝ }
 {
-    let states = q.states as u16;
-    let s = c % states;
-    if (q.accepting >> s) % 2 != 1 {
-        return false;
-    }
-    let node = goal.node;
-    let found = reach::verdict(words[(c / states) as usize], node);
-    reach::facing(goal.want, found)
-}
-
-// Mark c as a goal or as not reached; the queue's new tail.
-fn seed_one(goal: bool, c: u16, tail: u16, dist: &mut [u16], queue: &mut [u16]) -> u16
-    requires { ⌜ (c < length (now dist)) × (tail < length (now queue)) × (tail < 8192) ⌝ }
-    ensures { λ r. ⌜ Put (now (dist .entry)) (now (queue .entry)) goal c tail (now (dist .exit)) (now (queue .exit)) r ⌝ }
-{
-    if goal {
-        dist[c as usize] = 0;
-        queue[tail as usize] = c;
-        return tail + 1;
-    }
-    dist[c as usize] = FAR;
-    tail
-}
-
-// Mark every configuration as a goal or as not reached; how many goals there are.
-fn seed(words: &[u64], q: Automaton, goal: Goal, dist: &mut [u16], queue: &mut [u16]) -> u16
-    requires { ⌜ (0 < q .states) × (q .states ≤ stateLimit) × (goal .node .0 < nodeLimit) ⌝ }
-    requires { ⌜ (length (now dist) ≡ length (now words) * q .states) × (length (now dist) ≤ 8192) × (length (now dist) ≤ length (now queue)) ⌝ }
-    ensures { λ r. ⌜ Seeded (goalAt (now (words .entry)) q goal) (now (dist .exit)) (now (queue .exit)) (length (now (dist .entry))) r ⌝ }
-{
-    let size = dist.len() as u16;
-    let mut tail: u16 = 0;
-    let mut c: u16 = 0;
-    while c < size {
-        let found = is_goal(words, q, goal, c);
-        tail = seed_one(found, c, tail, dist, queue);
-        c += 1;
-    }
-    tail
-}
-
-// The distances of all configurations to the goals.
-pub fn distances(
-    edges: &[u32],
-    words: &[u64],
-    q: Automaton,
-    goal: Goal,
-    dist: &mut [u16],
-    queue: &mut [u16],
-)
-    requires { ⌜ Ready (now edges) q (now words) ⌝ }
-    requires { ⌜ (goal .node .0 < nodeLimit) × (length (now dist) ≡ length (now words) * q .states) × (length (now dist) ≤ length (now queue)) ⌝ }
-    ensures { λ _. ⌜ Distances (graphOf (now (edges .entry)) q (now (words .entry))) (GoalAt (now (words .entry)) q goal) (now (dist .exit)) ⌝ }
-{
+    let q = query.automaton;
+    let goal = query.goal;
+    let start = start_of(query);
     let tail = seed(words, q, goal, dist, queue);
-    spread(edges, words, q, tail, dist, queue);
+    spread(arcs, words, q, Begun { start, tail }, dist, queue);
 }

@@ -22,25 +22,26 @@ use Rattle.aldlf.proofs.Search as search
 use Rattle.aldlf.proofs.Search.{found-first}
 use Rattle.aldlf.proofs.Short.{found, found-some, found-none}
 use Rattle.graph.specs.Graph.{Graph, Step, Walk, far, at}
-use Rattle.graph.specs.Configurations.{unpackedOf, graphOf, Goes, Moves, Ready}
+use Rattle.graph.specs.Arcs.{unpackedOf}
+use Rattle.graph.specs.Configurations.{graphOf, Goes, Moves, Ready}
 use Rattle.graph.proofs.Steps.{step-moves, moves-step, forward, config-inside}
 use Rattle.shortest.specs.Goals.{GoalAt, goalAt}
 use Rattle.shortest.specs.Descent.{Distances, Descent}
 use Rattle.shortest.specs.declared.Goal.{Goal}
-use Rattle.shortest.proofs.Greedy.{descent-length, descent-walk, descent-first}
+use Rattle.shortest.proofs.Greedy.{near-least, descent-length, descent-walk, descent-first}
 
 -- an edge of a table as an edge of its sheet
 abbrev pub edgeOf : Edge → sheet.Edge
 edgeOf x = record { from = x .from .0; dir = dirOf (x .dir); test = x .test .0; to = x .to .0 }
 
 -- what it is for the search's lists to stand for automaton m of a sheet with the nodes' values h and the goals g
-pub record Agrees (S : Sheet) (n m : ℕ) (h g : ℕ → ℕ → Bool) (edges : List ℕ) (q : Automaton) (words : List ℕ) (goal : Goal) : Type 0 where
+pub record Agrees (S : Sheet) (n m : ℕ) (h g : ℕ → ℕ → Bool) (arcs : List ℕ) (q : Automaton) (words : List ℕ) (goal : Goal) : Type 0 where
   pub long : length words ≡ n
   pub first-is : S .automaton m .first ≡ q .first
   pub count-is : S .automaton m .count ≡ q .count
-  pub edge-is : (e : ℕ) → q .first ≤ e → e < q .first + q .count → S .edge e ≡ edgeOf (unpackedOf (at edges e))
+  pub edge-is : (e : ℕ) → q .first ≤ e → e < q .first + q .count → S .edge e ≡ edgeOf (unpackedOf (at arcs e))
   pub test-is : (e : ℕ) → q .first ≤ e → e < q .first + q .count → (i : ℕ) → i < n
-      → h (unpackedOf (at edges e) .test .0) i ≡ bit (at words i) (unpackedOf (at edges e) .test .0)
+      → h (unpackedOf (at arcs e) .test .0) i ≡ bit (at words i) (unpackedOf (at arcs e) .test .0)
   pub goal-is : (s i : ℕ) → s < q .states → i < n → g s i ≡ goalAt words q goal (i * q .states + s)
 
 -- directions as numbers and as the sheet's
@@ -68,17 +69,17 @@ module _
     (S : Sheet)
     (n m : ℕ)
     (h g : ℕ → ℕ → Bool)
-    (edges : List ℕ)
+    (arcs : List ℕ)
     (q : Automaton)
     (words : List ℕ)
     (goal : Goal)
-    (r : Ready edges q words)
-    (a : Agrees S n m h g edges q words goal) where
+    (r : Ready arcs q words)
+    (a : Agrees S n m h g arcs q words goal) where
   abbrev G : Graph
-  G = graphOf edges q words
+  G = graphOf arcs q words
 
   abbrev edge : ℕ → Edge
-  edge e = unpackedOf (at edges e)
+  edge e = unpackedOf (at arcs e)
 
   entry-in : (p : ℕ) → p < length words * q .states → p / q .states < n
   entry-in p l = let k : p / q .states < length words = div-lt-iff-lt-mul (r .some-state) .1 l in omega (arith, a .long)
@@ -87,7 +88,7 @@ module _
   step-taken : (p e c : ℕ) → Step G p e c
       → meaning.Taken S (Is₂ h) m e (p % q .states) (p / q .states) × meaning.Moves n (S .edge e .dir) (p / q .states) (c / q .states) × (S .edge e .to ≡ c % q .states)
   step-taken p e c st =
-      let mv = step-moves edges q words r p e c st in
+      let mv = step-moves arcs q words r p e c st in
       let same = a .edge-is e (st .from-first) (st .below-last) in (
         record {
           above = omega (arith, a .first-is, st .from-first);
@@ -106,7 +107,7 @@ module _
   taken-step : (e s i j : ℕ) → s < q .states → i < n → meaning.Taken S (Is₂ h) m e s i → meaning.Moves n (S .edge e .dir) i j
       → Step G (i * q .states + s) e (j * q .states + S .edge e .to) × (S .edge e .to < q .states) × (j < n)
   taken-step e s i j ls li t mv = (
-    moves-step edges q words r (i * q .states + s) e (j * q .states + S .edge e .to) from-first below-last
+    moves-step arcs q words r (i * q .states + s) e (j * q .states + S .edge e .to) from-first below-last
         (config-inside i (q .states) s (length words) (omega (arith, a .long)) ls)
         (config-inside j (q .states) (S .edge e .to) (length words) (omega (arith, a .long, jn)) to-in)
         (record {
@@ -158,7 +159,7 @@ module _
       let (st, lt, lk) = taken-step e s i k ls li t mv in
       (k * q .states + S .edge e .to, st, goes-walk w (S .edge e .to) k lt lk (s′, j, wk, z))
 
-  module _ (D : List ℕ) (d : Distances G (GoalAt words q goal) D) (s i : ℕ) (ls : s < q .states) (li : i < n) where
+  module _ (D : List ℕ) (s i : ℕ) (d : Distances G (GoalAt words q goal) D (i * q .states + s)) (ls : s < q .states) (li : i < n) where
     abbrev start : ℕ
     start = i * q .states + s
 
@@ -180,7 +181,7 @@ module _
         go : (o : Option (List ℕ)) → found S n m h g s i ≡ o → found S n m h g s i ≡ none
         go none p = p
         go (some es) p =
-            let near = d .reached es start inside (goes-walk es s i ls li (found-some S n m h g s i li es p .1)) in
+            let near = d .reached es (goes-walk es s i ls li (found-some S n m h g s i li es p .1)) in
             absurd (omega arith)
 
     -- a distance: a walk of so many edges is found
@@ -195,7 +196,7 @@ module _
         go (some es) p =
             let (_, goes, short) = found-some S n m h g s i li es p in
             let x = short (walked .0) (here-goes (walked .0) (walked .1)) in
-            let y = d .least es start inside (goes-walk es s i ls li goes) in
+            let y = near-least G (GoalAt words q goal) D start d es start inside (omega arith) (goes-walk es s i ls li goes) in
             let z = walked .2 in
             (es, p, omega arith)
 
@@ -204,7 +205,7 @@ module _
     found-descent w end l t z =
         let (es, p, len) = found-near l in
         let (at-length, goes, _) = found-some S n m h g s i li es p in
-        let size = descent-length G (GoalAt words q goal) D d w start end t z in
-        let v = here-goes w (descent-walk G (GoalAt words q goal) D d w start end inside t z) in
+        let size = descent-length G (GoalAt words q goal) D start d w start end t z in
+        let v = here-goes w (descent-walk G (GoalAt words q goal) D start d w start end inside t z) in
         let first : Before es w = found-first S n m h g (length es) s i li es at-length w (omega arith) v in
-        p ∙ ap some (descent-first G (GoalAt words q goal) D d (forward edges q words r) w start end l t z es (goes-walk es s i ls li goes) (omega arith) first)
+        p ∙ ap some (descent-first G (GoalAt words q goal) D start d (forward arcs q words r) w start end l (omega arith) t z es (goes-walk es s i ls li goes) (omega arith) first)

@@ -27,14 +27,14 @@ use Rattle.aldlf.proofs.Short.{found}
 use Rattle.sheet.specs.Facts.{nodeAt, automatonAt, edgeAt, ModalFacts, TableFacts}
 use Rattle.sheet.proofs.Facts.{tests-below}
 use Rattle.graph.specs.Graph.{far, at}
-use Rattle.graph.specs.Configurations.{graphOf, startOf, unpackedOf, Ready}
+use Rattle.graph.specs.Arcs.{unpackedOf}
+use Rattle.graph.specs.Configurations.{graphOf, startOf, Ready}
 use Rattle.shortest.specs.Goals.{goalAt, GoalAt}
 use Rattle.shortest.specs.declared.Goal.{Goal}
 use Rattle.walk.specs.Search.{goalOf, Found, LineReady, LineFound, JudgedLog, modalOf}
 use Rattle.walk.specs.Answer.{refusedBy, answerOf}
 use Rattle.walk.specs.declared.WalkAnswer.{WalkAnswer}
 use Rattle.walk.specs.declared.WalkAnswer.the-variants.{Shown, Refused}
-use Rattle.walk.proofs.LineEdges.{edge-at}
 use Rattle.walk.proofs.Agreement.{Agrees, edgeOf, found-far, found-near, found-descent}
 use Rattle.walk.proofs.Questions.{refusal, byRoom, shownBy, outcome-36, outcome-37, outcome-38, outcome-walk}
 
@@ -55,12 +55,12 @@ module _
     (S : Sheet)
     (n m : ℕ)
     (h g : ℕ → ℕ → Bool)
-    (edges : List ℕ)
+    (arcs : List ℕ)
     (q : Automaton)
     (words : List ℕ)
     (goal : Goal)
-    (r : Ready edges q words)
-    (a : Agrees S n m h g edges q words goal)
+    (r : Ready arcs q words)
+    (a : Agrees S n m h g arcs q words goal)
     (i : ℕ)
     (ls : q .start .0 < q .states)
     (li : i < n) where
@@ -79,12 +79,12 @@ module _
       ap₂ (λ (x : ℕ) (b : List ℕ). record { number = 0; count = x; buffer = b }) (sym e) (w ∙ ap (λ (x : ℕ). es ++ drop x before) (sym e))
 
   -- the search's answer is that of questions 39 and 40 about the walk that is found
-  pub answer-right : (before after : List ℕ) (x : WalkAnswer) → Found (graphOf edges q words) (GoalAt words q goal) (startOf q i) before after x
+  pub answer-right : (before after : List ℕ) (x : WalkAnswer) → Found (graphOf arcs q words) (GoalAt words q goal) (startOf q i) before after x
       → answerOf x after ≡ shownBy sought before
   unfolding answerOf
   answer-right before after (Shown c) f =
       let (near, count, fits, w) = f .answered in
-      let e : sought ≡ some (w .walk) = found-descent S n m h g edges q words goal r a (f .distances) (f .right) (q .start .0) i ls li (w .walk) (w .end) near (w .leads) (w .ends) in
+      let e : sought ≡ some (w .walk) = found-descent S n m h g arcs q words goal r a (f .distances) (q .start .0) i (f .right) ls li (w .walk) (w .end) near (w .leads) (w .ends) in
       let long = w .long in
       shown-count (w .walk) before after c long (w .written)
       ∙ (sym (shown-room (w .walk) before (omega arith)) ∙ ap (λ (o : Option (List ℕ)). shownBy o before) (sym e))
@@ -99,9 +99,9 @@ module _
       go : ((c ≡ 39) × (at D (startOf q i) ≡ far)) ⊎ ((c ≡ 40) × (at D (startOf q i) < far) × (length before < at D (startOf q i))) → refusal (refusedBy c) after ≡ shownBy sought before
       go (inl (e, z)) =
           ap₂ (λ (y : ℕ) (b : List ℕ). refusal (refusedBy y) b) e kept
-          ∙ ap (λ (o : Option (List ℕ)). shownBy o before) (sym (found-far S n m h g edges q words goal r a D (f .right) (q .start .0) i ls li z))
+          ∙ ap (λ (o : Option (List ℕ)). shownBy o before) (sym (found-far S n m h g arcs q words goal r a D (q .start .0) i (f .right) ls li z))
       go (inr (e, near, room)) =
-          let (es, p, long) = found-near S n m h g edges q words goal r a D (f .right) (q .start .0) i ls li near in
+          let (es, p, long) = found-near S n m h g arcs q words goal r a D (q .start .0) i (f .right) ls li near in
           ap₂ (λ (y : ℕ) (b : List ℕ). refusal (refusedBy y) b) e kept
           ∙ (sym (shown-short es before (omega arith)) ∙ ap (λ (o : Option (List ℕ)). shownBy o before) (sym p))
 
@@ -227,8 +227,8 @@ module _ (t : Table) (log : List ℕ) (k i : ℕ) (facts : TableFacts t) (lk : k
         judge-below S log (plain S) k a j la
         ∙ (sym (word-bit S log a j (earlier-in a la) lj) ∙ ap (λ (l : List ℕ). bit (at l j) a) (sym (W .words-are)))
 
-    edge-same : (e : ℕ) → q .first ≤ e → e < q .first + q .count → unpackedOf (at (f .edges) e) ≡ edgeAt t e
-    edge-same e lo hi = edge-at t line words i ready (f .edges) (f .packed) e lo hi
+    edge-same : (e : ℕ) → q .first ≤ e → e < q .first + q .count → unpackedOf (at (f .arcs) e) ≡ edgeAt t e
+    edge-same e lo hi = f .chained .edge-is e lo hi
 
     sheet-edge : (e : ℕ) → S .edge e ≡ edgeOf (edgeAt t e)
     unfolding sheetOf
@@ -257,7 +257,7 @@ module _ (t : Table) (log : List ℕ) (k i : ℕ) (facts : TableFacts t) (lk : k
         ∙ (ap₂ (λ (u : ℕ) (v : Bool). bit (q .accepting) u && facing want v) (sym (digits-mod j ls)) (value-is (line .b) j (mf .node<) lj)
         ∙ ap₂ (λ (w : Bool) (y : ℕ). bit (q .accepting) ((j * q .states + s) % q .states) && facing w (bit (at words y) (line .b))) (sym kind-is) (sym (digits-div j ls)))
 
-    agrees : Agrees S (length log) (line .a) h (goal S h want (line .a) (line .b)) (f .edges) q words (goalOf line)
+    agrees : Agrees S (length log) (line .a) h (goal S h want (line .a) (line .b)) (f .arcs) q words (goalOf line)
     agrees =
         record {
           long = long;
@@ -265,7 +265,7 @@ module _ (t : Table) (log : List ℕ) (k i : ℕ) (facts : TableFacts t) (lk : k
           count-is = count-same;
           edge-is = λ e lo hi. sheet-edge e ∙ ap edgeOf (sym (edge-same e lo hi));
           test-is = λ e lo hi j lj.
-              value-is (unpackedOf (at (f .edges) e) .test .0) j
+              value-is (unpackedOf (at (f .arcs) e) .test .0) j
               (subst (λ (y : ℕ). y < k) (ap (λ (z : Edge). z .test .0) (sym (edge-same e lo hi))) (tests-below t k e facts mf lo hi)) lj;
           goal-is = goal-at;
         }
@@ -291,7 +291,7 @@ module _ (t : Table) (log : List ℕ) (k i : ℕ) (facts : TableFacts t) (lk : k
     -- what the search answers is the walk's outcome
     pub answer-outcome : answerOf x after ≡ walkOutcome true S log k i before
     answer-outcome =
-        answer-right S (length log) (line .a) h (goal S h want (line .a) (line .b)) (f .edges) q words (goalOf line) (f .ready) agrees i (ready .start-fits) li before after x (f .found)
+        answer-right S (length log) (line .a) h (goal S h want (line .a) (line .b)) (f .arcs) q words (goalOf line) (f .ready) agrees i (ready .start-fits) li before after x (f .found)
         ∙ (ap (λ (o : Option (List ℕ)). shownBy o before) (sym walk-found)
         ∙ sym (outcome-walk S log k i before (W .fits) on-sheet (lt-ltb i (length log) li) is-modal))
 

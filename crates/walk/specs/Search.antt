@@ -9,14 +9,17 @@ use lib.ListN.{length, getD}
 use Rattle.aldlf.specs.Constants.{nodeLimit, automatonLimit, stateLimit, edgeLimit, entryLimit, letterD, letterB}
 use Rattle.aldlf.specs.Sheet.{noEdge, noAutomaton, sheetOf}
 use Rattle.aldlf.specs.Outcomes.{logFits, logWords}
+use Rattle.aldlf.specs.declared.Automaton.{Automaton}
+use Rattle.aldlf.specs.declared.Entry.{Entry}
 use Rattle.aldlf.specs.declared.NodeLine.{NodeLine}
 use Rattle.aldlf.specs.declared.Table.{Table}
 use Rattle.graph.specs.Graph.{Graph, far, at}
-use Rattle.graph.specs.Configurations.{graphOf, startOf, Packed, EdgeFits, Ready}
+use Rattle.graph.specs.Arcs.{Chained}
+use Rattle.graph.specs.Configurations.{graphOf, startOf, EdgeFits, Ready}
 use Rattle.shortest.specs.Descent.{Distances, Written}
 use Rattle.shortest.specs.Goals.{GoalAt}
 use Rattle.shortest.specs.declared.Goal.{Goal}
-use Rattle.walk.specs.declared.search.Query.{Query}
+use Rattle.shortest.specs.declared.Query.{Query}
 use Rattle.walk.specs.declared.WalkAnswer.{WalkAnswer}
 use Rattle.walk.specs.declared.WalkAnswer.the-variants.{Shown, Refused}
 
@@ -26,17 +29,11 @@ Answered G D c before after (Shown n) = (at D c < far) × (at D c ≡ n) × (n �
 Answered G D c before after (Refused q) =
     (after ≡ before) × (((q ≡ 39) × (at D c ≡ far)) ⊎ ((q ≡ 40) × (at D c < far) × (length before < at D c)))
 
--- The answer for a graph and its goals, whatever list holds the distances.
+-- The answer for a graph, its goals and a start, whatever list holds the distances.
 pub record Found (G : Graph) (goal : ℕ → Type 0) (c : ℕ) (before after : List ℕ) (r : WalkAnswer) : Type 0 where
   pub distances : List ℕ
-  pub right : Distances G goal distances
+  pub right : Distances G goal distances c
   pub answered : Answered G distances c before after r
-
--- What a search needs besides: its start is a configuration, its goal a node.
-pub record Asked (query : Query) (n : ℕ) : Type 0 where
-  pub start-fits : query .automaton .start .0 < query .automaton .states
-  pub entry-fits : query .entry .0 < n
-  pub node-fits : query .goal .node .0 < nodeLimit
 
 -- What it is to search a table for the walk of a D or B line: every automaton that it names is in order.
 pub record LineReady (table : Table) (line : NodeLine) (n i : ℕ) : Type 0 where
@@ -60,13 +57,17 @@ modalOf line = eqb (line .kind) letterD || eqb (line .kind) letterB
 abbrev pub goalOf : NodeLine → Goal
 goalOf line = record { node = record { 0 = line .b }; want = eqb (line .kind) letterD }
 
--- The answer for a line, in the graph of its automaton with packed edges.
+-- The walk that a line asks for.
+abbrev pub queryOf : Automaton → NodeLine → Entry → Query
+queryOf q line entry = record { automaton = q; goal = goalOf line; entry = entry }
+
+-- The answer for a line, in the graph of its automaton with chained edges.
 pub record LineFound (table : Table) (line : NodeLine) (words : List ℕ) (i : ℕ) (before after : List ℕ) (r : WalkAnswer) : Type 0 where
-  pub edges : List ℕ
-  pub packed : Packed (table .edges) (getD (table .automata) (line .a) noAutomaton .first)
-      (getD (table .automata) (line .a) noAutomaton .first + getD (table .automata) (line .a) noAutomaton .count) edges
-  pub ready : Ready edges (getD (table .automata) (line .a) noAutomaton) words
-  pub found : Found (graphOf edges (getD (table .automata) (line .a) noAutomaton) words) (GoalAt words (getD (table .automata) (line .a) noAutomaton) (goalOf line))
+  pub arcs : List ℕ
+  pub chained : Chained (table .edges) (getD (table .automata) (line .a) noAutomaton .first)
+      (getD (table .automata) (line .a) noAutomaton .first + getD (table .automata) (line .a) noAutomaton .count) arcs
+  pub ready : Ready arcs (getD (table .automata) (line .a) noAutomaton) words
+  pub found : Found (graphOf arcs (getD (table .automata) (line .a) noAutomaton) words) (GoalAt words (getD (table .automata) (line .a) noAutomaton) (goalOf line))
       (startOf (getD (table .automata) (line .a) noAutomaton) i) before after r
 
 -- The words are the verdict words of a log that question 32 accepts.

@@ -5,8 +5,12 @@ use aldlf::Entry;
 use aldlf::Node;
 use aldlf::NodeLine;
 use aldlf::Table;
+use graph::edges::ARCS;
+use graph::edges::NONE;
+use graph::edges::chain_edges;
 use judge::Judged;
-use search::show_line;
+use search::find;
+use search::query_of;
 ghost use mathlib.Core.Path.{_≡_};
 ghost use mathlib.Core.Bool.{true};
 ghost use mathlib.Core.List.{List};
@@ -77,5 +81,9 @@ fn walk_judged(
     if !is_modal(line) {
         return WalkAnswer::Refused(38);
     }
-    show_line(table, line, entry, words, edges)
+    let m = line.a;
+    let q = table.automata[m as usize];
+    let mut arcs = [NONE; ARCS];
+    chain_edges(table, q, &mut arcs);
+    find(&arcs, words, query_of(q, line, entry), edges)
 }

@@ -1,40 +1,36 @@
-// The search for one walk: the distances of all configurations, then the walk from its start, or the question that gets a no.
+// The search for one walk: the distance of its start and of what is nearer, then the walk, or the question that gets a no.
 use super::WalkAnswer;
 use aldlf::Automaton;
 use aldlf::Entry;
 use aldlf::Node;
 use aldlf::NodeLine;
-use aldlf::Table;
-use graph::edges::pack_edges;
+use graph::moves::Configuration;
 use graph::moves::FAR;
 use shortest::Goal;
+use shortest::Query;
 use shortest::distances::distances;
+use shortest::start_of;
+use shortest::trace::Wanted;
 use shortest::trace::trace;
 ghost use mathlib.Core.Path.{_≡_};
-ghost use Prim.Native.Nat.{_*_, _≤_};
+ghost use Prim.Native.Nat.{ℕ, _*_, _≤_, _<_};
 ghost use lib.ListN.{length};
+ghost use Rattle.graph.specs.Graph.{at, far};
 ghost use Rattle.graph.specs.Configurations.{graphOf, startOf, Ready};
-ghost use Rattle.shortest.specs.Goals.{GoalAt};
+ghost use Rattle.shortest.specs.Goals.{GoalAt, Asked};
 ghost use Rattle.shortest.specs.Descent.{Descends};
-ghost use Rattle.walk.specs.Search.{Asked, Answered, Found, LineReady, LineFound};
-
-// A walk that is sought: of this automaton, from its start at this entry, to this goal.
-pub(crate) struct Query {
-    pub(crate) automaton: Automaton,
-    pub(crate) goal: Goal,
-    pub(crate) entry: Entry,
-}
+ghost use Rattle.walk.specs.Search.{Answered, Found, queryOf};
 
 // Questions 39 and 40, and the walk along the distances.
-fn show(edges: &[u32], words: &[u64], query: Query, dist: &[u16], out: &mut [u16]) -> WalkAnswer
-    requires { ⌜ Ready (now edges) (query .automaton) (now words) ⌝ }
+fn show(arcs: &[u64], words: &[u64], query: Query, dist: &[u16], out: &mut [u16]) -> WalkAnswer
+    requires { ⌜ Ready (now arcs) (query .automaton) (now words) ⌝ }
     requires { ⌜ Asked query (length (now words)) ⌝ }
-    requires { ⌜ Descends (graphOf (now edges) (query .automaton) (now words)) (now dist) ⌝ }
-    ensures { λ r. ⌜ Answered (graphOf (now (edges .entry)) (query .automaton) (now (words .entry))) (now (dist .entry))
+    requires { ⌜ Descends (graphOf (now arcs) (query .automaton) (now words)) (now dist) (startOf (query .automaton) (query .entry .0)) ⌝ }
+    ensures { λ r. ⌜ Answered (graphOf (now (arcs .entry)) (query .automaton) (now (words .entry))) (now (dist .entry))
         (startOf (query .automaton) (query .entry .0)) (now (out .entry)) (now (out .exit)) r ⌝ }
 {
     let q = query.automaton;
-    let c = query.entry.0 * (q.states as u16) + (q.start.0 as u16);
+    let c = start_of(query);
     let total = dist[c as usize];
     if total == FAR {
         return WalkAnswer::Refused(39);
@@ -43,72 +39,66 @@ fn show(edges: &[u32], words: &[u64], query: Query, dist: &[u16], out: &mut [u16
     if out.len() < count {
         return WalkAnswer::Refused(40);
     }
-    trace(edges, words, q, dist, c, out);
+    let state = q.start;
+    let entry = query.entry;
+    let from = Configuration { state, entry };
+    let start = Wanted {
+        from,
+        distance: total,
+    };
+    trace(arcs, words, q, dist, start, out);
     WalkAnswer::Shown(count)
 }
 
-// The distances in lent places, then the walk.
+// The distances in lent places, none of them marked yet, then the walk.
 fn search(
-    edges: &[u32],
+    arcs: &[u64],
     words: &[u64],
     query: Query,
     dist: &mut [u16],
     queue: &mut [u16],
     out: &mut [u16],
 ) -> WalkAnswer
-    requires { ⌜ Ready (now edges) (query .automaton) (now words) ⌝ }
+    requires { ⌜ Ready (now arcs) (query .automaton) (now words) ⌝ }
     requires { ⌜ Asked query (length (now words)) ⌝ }
     requires { ⌜ (length (now dist) ≡ length (now words) * query .automaton .states) × (length (now dist) ≤ length (now queue)) ⌝ }
-    ensures { λ r. ⌜ Found (graphOf (now (edges .entry)) (query .automaton) (now (words .entry))) (GoalAt (now (words .entry)) (query .automaton) (query .goal))
+    requires { ⌜ ((i : ℕ) → i < length (now dist) → at (now dist) i ≡ far) ⌝ }
+    ensures { λ r. ⌜ Found (graphOf (now (arcs .entry)) (query .automaton) (now (words .entry))) (GoalAt (now (words .entry)) (query .automaton) (query .goal))
         (startOf (query .automaton) (query .entry .0)) (now (out .entry)) (now (out .exit)) r ⌝ }
 {
-    let q = query.automaton;
-    let goal = query.goal;
-    distances(edges, words, q, goal, dist, queue);
-    show(edges, words, query, &*dist, out)
+    distances(arcs, words, query, dist, queue);
+    show(arcs, words, query, &*dist, out)
 }
 
 // A search in no more room than it needs: clearing the larger room would take longer than the search of a short log.
-fn find(edges: &[u32], words: &[u64], query: Query, out: &mut [u16]) -> WalkAnswer
-    requires { ⌜ Ready (now edges) (query .automaton) (now words) ⌝ }
+pub(crate) fn find(arcs: &[u64], words: &[u64], query: Query, out: &mut [u16]) -> WalkAnswer
+    requires { ⌜ Ready (now arcs) (query .automaton) (now words) ⌝ }
     requires { ⌜ Asked query (length (now words)) ⌝ }
-    ensures { λ r. ⌜ Found (graphOf (now (edges .entry)) (query .automaton) (now (words .entry))) (GoalAt (now (words .entry)) (query .automaton) (query .goal))
+    ensures { λ r. ⌜ Found (graphOf (now (arcs .entry)) (query .automaton) (now (words .entry))) (GoalAt (now (words .entry)) (query .automaton) (query .goal))
         (startOf (query .automaton) (query .entry .0)) (now (out .entry)) (now (out .exit)) r ⌝ }
 {
     let states = query.automaton.states as usize;
     let size = words.len() * states;
     if size <= 512 {
-        let mut dist = [0u16; 512];
+        let mut dist = [FAR; 512];
         let mut queue = [0u16; 512];
-        return search(edges, words, query, &mut dist[..size], &mut queue, out);
+        return search(arcs, words, query, &mut dist[..size], &mut queue, out);
     }
-    let mut dist = [0u16; 8192];
+    let mut dist = [FAR; 8192];
     let mut queue = [0u16; 8192];
-    search(edges, words, query, &mut dist[..size], &mut queue, out)
+    search(arcs, words, query, &mut dist[..size], &mut queue, out)
 }
 
-// The walk for a D or B line at an entry: the line's automaton is searched for an end where the line's node holds (D) or fails (B).
-pub(crate) fn show_line(
-    table: Table,
-    line: NodeLine,
-    entry: Entry,
-    words: &[u64],
-    out: &mut [u16],
-) -> WalkAnswer
-    requires { ⌜ LineReady table line (length (now words)) (entry .0) ⌝ }
-    ensures { λ r. ⌜ LineFound table line (now (words .entry)) (entry .0) (now (out .entry)) (now (out .exit)) r ⌝ }
+// The walk that a D or B line asks for at an entry: of the line's automaton, to an end where the line's node holds (D) or fails (B).
+pub(crate) fn query_of(q: Automaton, line: NodeLine, entry: Entry) -> Query
+    ensures { λ r. ⌜ r ≡ queryOf q line entry ⌝ }
 {
-    let m = line.a;
-    let q = table.automata[m as usize];
-    let mut edges = [0u32; aldlf::EDGES];
-    pack_edges(table, q, &mut edges);
-    let query = Query {
+    Query {
         automaton: q,
         goal: Goal {
             node: Node(line.b),
             want: line.kind == b'D',
         },
         entry,
-    };
-    find(&edges, words, query, out)
+    }
 }

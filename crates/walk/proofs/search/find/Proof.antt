@@ -4,9 +4,9 @@ use mathlib.Core.Path.{sym}
 use denote.Ref.{now}
 use lib.ListN.{length}
 use Rattle.graph.proofs.Steps.{size-small}
-use Rattle.walk.proofs.Room.{zeros-long}
-use borrow.Author.Needs.{needs}
+use Rattle.walk.proofs.Room.{room-long, room-clear}
 use native.Mathlib.Omega.{arith}
+use borrow.Author.Needs.{needs}
 use Rattle.walk.proofs.search.find.Statement.{statement}
 use Rattle.walk.proofs.search.find.Tie as tie
 
@@ -15,7 +15,7 @@ abbrev size : tie.Start → ℕ
 size S = length (now (S .args .words)) * S .args .query .automaton .states
 
 small : (S : tie.Start) → size S ≤ 8192
-small S = size-small (now (S .args .edges)) (S .args .query .automaton) (now (S .args .words)) (S .pre .0)
+small S = size-small (now (S .args .arcs)) (S .args .query .automaton) (now (S .args .words)) (S .pre .0)
 
 cast-states : tie.Need-cast-states
 cast-states c = search needs
@@ -27,13 +27,15 @@ array-borrow-prefix-dist : tie.Need-array-borrow-prefix-dist
 array-borrow-prefix-dist c = search needs
 
 slice-aggregate-search : tie.Need-slice-aggregate-search
-slice-aggregate-search c = let S = c .before .before .before .before .before .before in sym (zeros-long 512 (size S) (c .before .if1 .taken))
+slice-aggregate-search c = sym (room-long 512 (size (c .before .before .before .before .before .before)) (c .before .if1 .taken))
 
 slice-aggregate-search-2 : tie.Need-slice-aggregate-search-2
 slice-aggregate-search-2 c = search needs
 
 search-requires : tie.Need-search-requires
-search-requires c κs = let S = c .before .before .before .before .before .before .before .before in let z = zeros-long 512 (size S) (c .before .before .before .if1 .taken) in (S .pre .0, (S .pre .1, (z, omega (arith, c .before .before .before .if1 .taken))))
+search-requires c κs = let S = c .before .before .before .before .before .before .before .before in
+    let t = c .before .before .before .if1 .taken in
+    (S .pre .0, (S .pre .1, ((room-long 512 (size S) t, omega (arith, room-long 512 (size S) t)), room-clear 512 (size S) t)))
 
 same-length : tie.Need-same-length
 same-length c = search needs
@@ -45,13 +47,15 @@ array-borrow-prefix-dist-2 : tie.Need-array-borrow-prefix-dist-2
 array-borrow-prefix-dist-2 c = small (c .before .before .before .before .before)
 
 slice-aggregate-search-3 : tie.Need-slice-aggregate-search-3
-slice-aggregate-search-3 c = let S = c .before .before .before .before .before .before in sym (zeros-long 8192 (size S) (small S))
+slice-aggregate-search-3 c = sym (room-long 8192 (size (c .before .before .before .before .before .before)) (small (c .before .before .before .before .before .before)))
 
 slice-aggregate-search-4 : tie.Need-slice-aggregate-search-4
 slice-aggregate-search-4 c = search needs
 
 search-requires-2 : tie.Need-search-requires-2
-search-requires-2 c κs = let S = c .before .before .before .before .before .before .before .before in let z = zeros-long 8192 (size S) (small S) in (S .pre .0, (S .pre .1, (z, omega (arith, small S))))
+search-requires-2 c κs = let S = c .before .before .before .before .before .before .before .before in
+    let t = small S in
+    (S .pre .0, (S .pre .1, ((room-long 8192 (size S) t, omega (arith, room-long 8192 (size S) t)), room-clear 8192 (size S) t)))
 
 same-length-2 : tie.Need-same-length-2
 same-length-2 c = search needs

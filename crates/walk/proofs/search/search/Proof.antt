@@ -1,6 +1,6 @@
 -- `search` meets its contract: the walk falls along the distances just found. Assumes nothing.
 use denote.Ref.{now}
-use Rattle.graph.specs.Configurations.{graphOf}
+use Rattle.graph.specs.Configurations.{graphOf, startOf}
 use Rattle.shortest.specs.Goals.{GoalAt}
 use Rattle.shortest.proofs.Greedy.{descends}
 use borrow.Author.Needs.{needs}
@@ -11,13 +11,12 @@ distances-requires : tie.Need-distances-requires
 distances-requires c κs = search needs
 
 show-requires : tie.Need-show-requires
-show-requires c κs =
-    let S = c .before .before .before .before .before .before .before .before .before .before .before .before .before .before .before .before in
+show-requires c κs = let S = c .before .before .before .before .before .before .before .before .before .before .before .before .before .before in
     let q = S .args .query .automaton in (
       S .pre .0,
       (
         S .pre .1 .0,
-        descends (graphOf (now (S .args .edges)) q (now (S .args .words))) (GoalAt (now (S .args .words)) q (S .args .query .goal)) _ (c .before .before .before .before .before .before .distances .ensures),
+        descends (graphOf (now (S .args .arcs)) q (now (S .args .words))) (GoalAt (now (S .args .words)) q (S .args .query .goal)) _ (startOf q (S .args .query .entry .0)) (c .before .before .before .before .before .before .distances .ensures),
       ),
     )
 

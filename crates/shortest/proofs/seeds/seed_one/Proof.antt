@@ -1,7 +1,11 @@
 -- `seed_one` meets its contract, by whether c is a goal. Assumes nothing.
+use borrow.Author.Tests.{not-true, not-false}
 use borrow.Author.Needs.{needs}
-use Rattle.shortest.proofs.distances.seed_one.Statement.{statement}
-use Rattle.shortest.proofs.distances.seed_one.Tie as tie
+use Rattle.shortest.proofs.seeds.seed_one.Statement.{statement}
+use Rattle.shortest.proofs.seeds.seed_one.Tie as tie
+
+returns : tie.Need-returns
+returns c = let g = not-true (c .before .args .goal) (c .if1 .taken) in record { dist = rw g; queue = rw g; tail = rw g }
 
 mul-dist : tie.Need-mul-dist
 mul-dist c = search needs
@@ -24,25 +28,14 @@ same-length c = search needs
 same-length-2 : tie.Need-same-length-2
 same-length-2 c = search needs
 
-returns : tie.Need-returns
-returns c = record { dist = rw (c .if1 .taken); queue = rw (c .if1 .taken); tail = rw (c .if1 .taken) }
-
-mul-dist-2 : tie.Need-mul-dist-2
-mul-dist-2 c = search needs
-
-slice-write-dist-2 : tie.Need-slice-write-dist-2
-slice-write-dist-2 c = search needs
-
-same-length-3 : tie.Need-same-length-3
-same-length-3 c = search needs
-
 returns-2 : tie.Need-returns-2
-returns-2 c = record { dist = rw (c .if1 .left); queue = rw (c .if1 .left); tail = rw (c .if1 .left) }
+returns-2 c = let g = not-false (c .before .args .goal) (c .if1 .left) in record { dist = rw g; queue = rw g; tail = rw g }
 
 pub seed-one-spec : {M : Type 1} → statement M
 seed-one-spec =
     tie.close
     (tie.spec
+    returns
     mul-dist
     slice-write-dist
     mul-queue
@@ -50,8 +43,4 @@ seed-one-spec =
     add-result
     same-length
     same-length-2
-    returns
-    mul-dist-2
-    slice-write-dist-2
-    same-length-3
     returns-2)
