@@ -101,7 +101,15 @@ fn add_edge(p: u32, word: u64, place: usize, steps: &mut [u16])
     let c = place + column_of(p);
     let from = one_bit((p % 256) as u16);
     let on = verdict(word, Node((p / 16777216) as u8));
-    steps[c] = joined(steps[c], from, on);
+    let old = steps[c];
+    steps[c] = chosen(on, old | from, old);
+}
+
+// The first mask where it is on, the second where not.
+fn chosen(on: bool, yes: u16, no: u16) -> u16
+    ensures { λ r. ⌜ r ≡ pick on yes no ⌝ }
+{
+    if on { yes } else { no }
 }
 
 // The column of edge p among its entry's 48.

@@ -24,12 +24,17 @@ impl Logs<'_> {
             left -= n;
         }
         if left > 0 {
-            Err((32, self.lengths.len() as u32 + 1))
-        } else if self.rooms[0] < self.words.len() || self.rooms[1] < self.lengths.len() {
-            Err((33, 0))
-        } else {
-            Ok(sheet)
+            return Err((32, self.lengths.len() as u32 + 1));
         }
+        let mut room = self.rooms[0];
+        for (number, n) in (1..).zip(self.lengths) {
+            let n = *n as usize;
+            if n > room || number as usize > self.rooms[1] {
+                return Err((33, number));
+            }
+            room -= n;
+        }
+        Ok(sheet)
     }
 
     /// The verdicts of each log judged alone, one after the other, and the count of each.

@@ -12,8 +12,8 @@ use Rattle.reach.proofs.steps.add_edge.Statement.{statement}
 use Rattle.reach.proofs.steps.add_edge.Tie as tie
 use Rattle.reach.proofs.steps.add_edge.Reads as reads
 use Rattle.reach.proofs.steps.add_edge.Lts as lts
+use Rattle.reach.proofs.steps.chosen.Reads as chosen-reads
 use Rattle.reach.proofs.steps.column_of.Reads as column-of-reads
-use Rattle.reach.proofs.steps.joined.Reads as joined-reads
 use Rattle.reach.proofs.steps.one_bit.Reads as one-bit-reads
 use Rattle.reach.proofs.verdict.Reads as verdict-reads
 
@@ -34,30 +34,30 @@ one-bit-requires : tie.Need-one-bit-requires
 one-bit-requires c κs = search needs
 
 -- src/steps.rt:103:33
-cast-t11 : tie.Need-cast-t11
-cast-t11 c = search needs
+cast-t12 : tie.Need-cast-t12
+cast-t12 c = search needs
 
 -- src/steps.rt:103:9
 verdict-requires : tie.Need-verdict-requires
 verdict-requires c κs = search needs
 
--- src/steps.rt:104:23
-mul-joined : tie.Need-mul-joined
-mul-joined c = search needs
+-- src/steps.rt:104:15
+mul-old : tie.Need-mul-old
+mul-old c = search needs
 
--- src/steps.rt:104:23
-slice-read-joined : tie.Need-slice-read-joined
-slice-read-joined c = search needs
+-- src/steps.rt:104:15
+slice-read-old : tie.Need-slice-read-old
+slice-read-old c = search needs
 
--- src/steps.rt:104:16
-joined-requires : tie.Need-joined-requires
-joined-requires c κs = search needs
+-- src/steps.rt:105:16
+chosen-requires : tie.Need-chosen-requires
+chosen-requires c κs = search needs
 
--- src/steps.rt:104:5
+-- src/steps.rt:105:5
 mul-steps : tie.Need-mul-steps
 mul-steps c = search needs
 
--- src/steps.rt:104:5
+-- src/steps.rt:105:5
 slice-write-steps : tie.Need-slice-write-steps
 slice-write-steps c = search needs
 
@@ -71,7 +71,7 @@ returns c = let a = c .before .before .before .before .before .before .args in
     let C = now (a .steps) in
     let col = c .before .before .before .before .column-of in
     ap (set C (a .place + col .result))
-    (c .joined .ensures
+    (c .chosen .ensures
     ∙ ap₂ (λ (b : Bool) (z : ℕ). pick b (bitOr (at C (a .place + col .result)) z) (at C (a .place + col .result))) (c .before .before .verdict .ensures) (c .before .before .before .one-bit .ensures))
     ∙ ap (λ (z : ℕ). set C (a .place + z) (pick (bit (a .word) (testOf (a .p))) (bitOr (at C (a .place + z)) (2 ^ fromOf (a .p))) (at C (a .place + z)))) (col .ensures .0)
 
@@ -83,11 +83,11 @@ add-edge-spec =
     add-c
     cast-one-bit
     one-bit-requires
-    cast-t11
+    cast-t12
     verdict-requires
-    mul-joined
-    slice-read-joined
-    joined-requires
+    mul-old
+    slice-read-old
+    chosen-requires
     mul-steps
     slice-write-steps
     same-length

@@ -1,5 +1,5 @@
 -- `join` meets its contract: steps by way of one state more at each turn. Assumes nothing.
-use Prim.Native.Nat.{ℕ, _+_, _-_, _≤_}
+use Prim.Native.Nat.{ℕ, _-_, _≤_, _<_}
 use Rattle.aldlf.specs.Constants.{stateLimit}
 use Rattle.reach.proofs.Made.{joined-next, joined-none}
 use Rattle.reach.specs.Columns.{Joined}
@@ -25,7 +25,7 @@ loop-holds c = (omega arith, joined-none _ _)
 
 -- src/steps.rt:137:9
 pivot-requires : tie.Need-pivot-requires Inv-loop μ-loop
-pivot-requires c κs = let l = c .before .before .loop in (c .before .loop-test .taken, omega (arith, l .inv .1 .apart .same, c .before .before .before .before .pre))
+pivot-requires c κs = let l = c .before .before .loop in (omega (arith, c .before .loop-test .taken), omega (arith, l .inv .1 .apart .same, c .before .before .before .before .pre))
 
 -- src/steps.rt:138:9
 add-k : tie.Need-add-k Inv-loop μ-loop
@@ -39,7 +39,7 @@ loop-less c = search needs
 loop-again : tie.Need-loop-again Inv-loop μ-loop
 loop-again c = let S = c .before .before .before .before .before .before .before in
     let l = c .before .before .before .before .before .loop in
-    let h = c .before .before .before .before .loop-test .taken in
+    let h : l .k < stateLimit = omega (arith, c .before .before .before .before .loop-test .taken) in
     (omega (arith, h), joined-next (now (S .args .steps)) (S .args .place) (l .k) h (l .steps) _ (l .inv .1) (c .before .before .pivot .ensures))
 
 -- src/steps.rt:131:1
