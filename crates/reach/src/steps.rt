@@ -22,8 +22,19 @@ pub(crate) fn pull(steps: &[u16], place: usize, mask: u16) -> u16
     let mut found: u16 = 0;
     let mut t: u16 = 0;
     while t < 16 {
-        found = joined(found, steps[place + t as usize], has(mask, t));
+        found = with_column(found, steps, place + t as usize, has(mask, t));
         t += 1;
+    }
+    found
+}
+
+// The mask with a column's states where it is on; else the column is not read, and most are not.
+fn with_column(found: u16, steps: &[u16], place: usize, on: bool) -> u16
+    requires { ⌜ place < length (now steps) ⌝ }
+    ensures { λ r. ⌜ r ≡ pick on (bitOr found (at (now (steps .entry)) place)) found ⌝ }
+{
+    if on {
+        return found | steps[place];
     }
     found
 }

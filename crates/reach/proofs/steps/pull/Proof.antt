@@ -16,7 +16,7 @@ use Rattle.reach.proofs.steps.pull.Tie as tie
 use Rattle.reach.proofs.steps.pull.Reads as reads
 use Rattle.reach.proofs.steps.pull.Lts as lts
 use Rattle.reach.proofs.steps.has.Reads as has-reads
-use Rattle.reach.proofs.steps.joined.Reads as joined-reads
+use Rattle.reach.proofs.steps.with_column.Reads as with-column-reads
 
 abbrev Inv-loop : tie.InvT-loop
 Inv-loop steps place mask found₀ t₀ found t = (t ≤ stateLimit) × Pulled steps place mask t found
@@ -32,29 +32,21 @@ returns c = let a = c .before .before .args in pulled-empty (now (a .steps)) (a 
 loop-holds : tie.Need-loop-holds Inv-loop μ-loop
 loop-holds c = let a = c .before .before .args in (omega arith, pulled-none (now (a .steps)) (a .place) (a .mask))
 
--- src/steps.rt:25:45
-cast-joined : tie.Need-cast-joined Inv-loop μ-loop
-cast-joined c = search needs
+-- src/steps.rt:25:51
+cast-with-column : tie.Need-cast-with-column Inv-loop μ-loop
+cast-with-column c = search needs
 
--- src/steps.rt:25:37
-add-joined : tie.Need-add-joined Inv-loop μ-loop
-add-joined c = search needs
+-- src/steps.rt:25:43
+add-with-column : tie.Need-add-with-column Inv-loop μ-loop
+add-with-column c = search needs
 
--- src/steps.rt:25:31
-mul-joined : tie.Need-mul-joined Inv-loop μ-loop
-mul-joined c = search needs
-
--- src/steps.rt:25:31
-shared-slice-read-joined : tie.Need-shared-slice-read-joined Inv-loop μ-loop
-shared-slice-read-joined c = search needs
-
--- src/steps.rt:25:58
+-- src/steps.rt:25:63
 has-requires : tie.Need-has-requires Inv-loop μ-loop
 has-requires c κs = search needs
 
 -- src/steps.rt:25:9
-joined-requires : tie.Need-joined-requires Inv-loop μ-loop
-joined-requires c κs = search needs
+with-column-requires : tie.Need-with-column-requires Inv-loop μ-loop
+with-column-requires c κs = search needs
 
 -- src/steps.rt:26:9
 add-t : tie.Need-add-t Inv-loop μ-loop
@@ -66,13 +58,13 @@ loop-less c = search needs
 
 -- src/steps.rt:24:5
 loop-again : tie.Need-loop-again Inv-loop μ-loop
-loop-again c = let a = c .before .before .before .before .before .before .before .args in
-    let l = c .before .before .before .before .loop in
-    let k = c .before .before .before .before .before .before .shared-slice-known in
+loop-again c = let a = c .before .before .before .before .before .before .args in
+    let l = c .before .before .before .loop in
+    let k = c .before .before .before .before .before .shared-slice-known in
     let x = at (now (a .steps)) (a .place + l .t) in (
-      omega (arith, c .before .before .before .loop-test .taken),
-      pulled-next (now (a .steps)) (a .place) (a .mask) (l .t) (l .found) (c .joined .result) (omega (arith, k .given (a .place + l .t))) (l .inv .1)
-          (c .joined .ensures ∙ ap (λ (b : Bool). pick b (bitOr (l .found) x) (l .found)) (c .before .has .ensures)),
+      omega (arith, c .before .before .loop-test .taken),
+      pulled-next (now (a .steps)) (a .place) (a .mask) (l .t) (l .found) (c .with-column .result) (omega (arith, k .given (a .place + l .t))) (l .inv .1)
+          (c .with-column .ensures ∙ ap (λ (b : Bool). pick b (bitOr (l .found) x) (l .found)) (c .before .has .ensures)),
     )
 
 -- src/steps.rt:15:1
@@ -89,12 +81,10 @@ pull-spec =
     μ-loop
     returns
     loop-holds
-    cast-joined
-    add-joined
-    mul-joined
-    shared-slice-read-joined
+    cast-with-column
+    add-with-column
     has-requires
-    joined-requires
+    with-column-requires
     add-t
     loop-less
     loop-again
