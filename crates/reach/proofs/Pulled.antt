@@ -6,14 +6,15 @@ use mathlib.Core.Logic.{_⊎_, inl, inr}
 use mathlib.Core.Bool.{Bool, true, false, true≢false}
 use mathlib.Core.List.{List}
 use lib.Bits.{bitOr, or-lt}
-use lib.Dec.{eqb}
-use borrow.Author.Tests.{eqb-true, eqb-false}
+use lib.Dec.{eqb, ltb}
+use borrow.Author.Tests.{eqb-true, eqb-false, ltb-true, ltb-false}
 use Rattle.aldlf.specs.Constants.{stateLimit}
 use Rattle.aldlf.specs.Sheet.{bit}
 use Rattle.aldlf.proofs.Bools.{bool-cases}
 use Rattle.reach.specs.Marks.{at, pick}
 use Rattle.reach.specs.Columns.{Pulled}
 use Rattle.reach.specs.Steps.{Beside}
+use Rattle.reach.proofs.Masks.{bit-high}
 use Rattle.reach.proofs.Bits.{bit-zero, in-left, in-right, in-either}
 
 no-bit : (s : ℕ) → bit 0 s ≡ true → ⊥
@@ -44,6 +45,18 @@ pulled-next C p mask n r v small R e = subst (Pulled C p mask (n + 1)) (sym e) (
         all′ : (s t : ℕ) → t < n + 1 → bit mask t ≡ true → bit (at C (p + t)) s ≡ true → (eqb t n ≡ true) ⊎ (eqb t n ≡ false) → bit r s ≡ true
         all′ s t l b c (inl q) = absurd (true≢false (sym b ∙ ap (bit mask) (eqb-true t n q) ∙ m))
         all′ s t l b c (inr q) = let ne = eqb-false t n q in R .all s t (omega arith) b c
+
+-- the first columns are enough for a mask of the first states
+pub pulled-low : (C : List ℕ) (p mask n m r : ℕ) → n ≤ m → mask < 2 ^ n → Pulled C p mask n r → Pulled C p mask m r
+pulled-low C p mask n m r l small R = record {
+  fits = R .fits;
+  all = λ s t lt b c. all′ s t b c (bool-cases (ltb t n));
+  sound = λ s b. let w = R .sound s b in (w .0, omega (arith, w .1), w .2, w .3);
+}
+  where
+    all′ : (s t : ℕ) → bit mask t ≡ true → bit (at C (p + t)) s ≡ true → (ltb t n ≡ true) ⊎ (ltb t n ≡ false) → bit r s ≡ true
+    all′ s t b c (inl q) = R .all s t (ltb-true t n q) b c
+    all′ s t b c (inr q) = absurd (true≢false (sym b ∙ bit-high n mask t small (ltb-false t n q)))
 
 pub beside-on : (on : Bool) (C : List ℕ) (p mask r : ℕ) → on ≡ true → Pulled C p mask stateLimit r → Beside on C p mask r
 beside-on on C p mask r e R = record { fits = R .fits; none = λ off. absurd (true≢false (sym e ∙ off)); all = λ _. R .all; sound = R .sound }

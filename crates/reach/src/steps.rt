@@ -11,17 +11,28 @@ ghost use Rattle.aldlf.specs.Sheet.{«bit» as bitOf};
 ghost use Rattle.reach.specs.Marks.{at, pick, testOf, fromOf, EdgeFits, EdgesFit};
 ghost use Rattle.reach.specs.Columns.{groupOf, columnOf, Pulled, Held, Apart, Pivoted, Joined, Columns};
 
-// The states with a step into the mask, by the 16 columns from a place on.
+// The states with a step into the mask, by the 16 columns from a place on. Most automata have few states: then four columns are enough.
 pub(crate) fn pull(steps: &[u16], place: usize, mask: u16) -> u16
     requires { ⌜ place + stateLimit ≤ length (now steps) ⌝ }
     ensures { λ r. ⌜ Pulled (now (steps .entry)) place mask stateLimit r ⌝ }
+{
+    if mask < 16 {
+        return pull_of(4, steps, place, mask);
+    }
+    pull_of(16, steps, place, mask)
+}
+
+// The same by the first columns alone.
+fn pull_of(count: u16, steps: &[u16], place: usize, mask: u16) -> u16
+    requires { ⌜ (count ≤ stateLimit) × (place + stateLimit ≤ length (now steps)) ⌝ }
+    ensures { λ r. ⌜ Pulled (now (steps .entry)) place mask count r ⌝ }
 {
     if mask == 0 {
         return 0;
     }
     let mut found: u16 = 0;
     let mut t: u16 = 0;
-    while t < 16 {
+    while t < count {
         found = with_column(found, steps, place + t as usize, has(mask, t));
         t += 1;
     }
