@@ -12,26 +12,26 @@ use cases::{dense, hard, many, short_logs, snake, zigzag, Case, W, Z};
 use rozsvelen::{Sheet, Way};
 use std::hint::black_box;
 use timing::{head, row, time, work};
-use unproved::{columns, queue, steps, walks};
+use unproved::{bitsets, queue, steps, walks};
 
 fn judging(name: &str, text: &str, log: &[u32]) {
     let sheet = Sheet::read(text.as_bytes()).unwrap();
     let table = sheet.numbers();
     let [mut a, mut b, mut c, mut d] = [[0u64; 512]; 4];
     let held = rozsvelen::judge(&sheet, log, &mut a).ok();
-    let others = [columns::judge(table, log, &mut b), steps::judge(table, log, &mut c), queue::judge(table, log, &mut d)];
+    let others = [bitsets::judge(table, log, &mut b), steps::judge(table, log, &mut c), queue::judge(table, log, &mut d)];
     assert_eq!(others, [held; 3], "{name}: the versions' counts differ");
     assert!([&b, &c, &d].iter().all(|x| **x == a), "{name}: the versions' verdicts differ");
-    let [proved, by_columns, by_steps, by_queue] = time(
+    let [proved, by_bitsets, by_steps, by_queue] = time(
         1,
         [
             &mut work(|| rozsvelen::judge(&sheet, black_box(log), &mut a)),
-            &mut work(|| columns::judge(table, black_box(log), &mut b)),
+            &mut work(|| bitsets::judge(table, black_box(log), &mut b)),
             &mut work(|| steps::judge(table, black_box(log), &mut c)),
             &mut work(|| queue::judge(table, black_box(log), &mut d)),
         ],
     );
-    row(name, proved, &[("columns", by_columns), ("steps", by_steps), ("queue", by_queue)]);
+    row(name, proved, &[("bitsets", by_bitsets), ("steps", by_steps), ("queue", by_queue)]);
 }
 
 /// A thousand logs of five entries one by one; the figures are for one of them.
@@ -44,14 +44,14 @@ fn short_by_itself() {
         words.chunks(5).zip(verdicts.chunks_mut(5)).map(|(log, verdicts)| judge(black_box(log), verdicts)).sum()
     };
     let mut proved = || all(&mut a, &mut |log, verdicts| rozsvelen::judge(&sheet, log, verdicts).ok());
-    let mut by_columns = || all(&mut b, &mut |log, verdicts| columns::judge(table, log, verdicts));
+    let mut by_bitsets = || all(&mut b, &mut |log, verdicts| bitsets::judge(table, log, verdicts));
     let mut by_steps = || all(&mut c, &mut |log, verdicts| steps::judge(table, log, verdicts));
     let mut by_queue = || all(&mut d, &mut |log, verdicts| queue::judge(table, log, verdicts));
-    assert_eq!([by_columns(), by_steps(), by_queue()], [proved(); 3], "short logs: the versions' counts differ");
-    let times = time(10, [&mut work(proved), &mut work(by_columns), &mut work(by_steps), &mut work(by_queue)]);
-    let [proved, by_columns, by_steps, by_queue] = times.map(|us| us / 1000.0);
+    assert_eq!([by_bitsets(), by_steps(), by_queue()], [proved(); 3], "short logs: the versions' counts differ");
+    let times = time(10, [&mut work(proved), &mut work(by_bitsets), &mut work(by_steps), &mut work(by_queue)]);
+    let [proved, by_bitsets, by_steps, by_queue] = times.map(|us| us / 1000.0);
     assert!(a == b && a == c && a == d, "short logs: the versions' verdicts differ");
-    row("a log of five entries, sheet Z, by itself", proved, &[("columns", by_columns), ("steps", by_steps), ("queue", by_queue)]);
+    row("a log of five entries, sheet Z, by itself", proved, &[("bitsets", by_bitsets), ("steps", by_steps), ("queue", by_queue)]);
 }
 
 /// The same logs in one call; the figures are for one of them.
@@ -61,13 +61,13 @@ fn short_in_one_call() {
     let (words, lengths) = (short_logs(), [5; 1000]);
     let [mut a, mut b, mut c] = [0; 3].map(|_| (vec![0u64; words.len()], vec![0u16; lengths.len()]));
     let mut proved = || rozsvelen::judge_logs(&sheet, black_box(&words), &lengths, &mut a.0, &mut a.1).ok();
-    let mut by_columns = || columns::logs(table, black_box(&words), &lengths, &mut b.0, &mut b.1);
+    let mut by_bitsets = || bitsets::logs(table, black_box(&words), &lengths, &mut b.0, &mut b.1);
     let mut by_steps = || steps::logs(table, black_box(&words), &lengths, &mut c.0, &mut c.1);
-    assert_eq!([proved(), by_columns(), by_steps()], [Some(()); 3], "short logs in one call: not all versions accept them");
-    let times = time(10, [&mut work(proved), &mut work(by_columns), &mut work(by_steps)]);
-    let [proved, by_columns, by_steps] = times.map(|us| us / 1000.0);
+    assert_eq!([proved(), by_bitsets(), by_steps()], [Some(()); 3], "short logs in one call: not all versions accept them");
+    let times = time(10, [&mut work(proved), &mut work(by_bitsets), &mut work(by_steps)]);
+    let [proved, by_bitsets, by_steps] = times.map(|us| us / 1000.0);
     assert!(a == b && a == c, "short logs in one call: the versions' verdicts or counts differ");
-    row("a log of five entries, sheet Z, 1,000 in one call", proved, &[("columns", by_columns), ("steps", by_steps)]);
+    row("a log of five entries, sheet Z, 1,000 in one call", proved, &[("bitsets", by_bitsets), ("steps", by_steps)]);
 }
 
 fn parts() {
@@ -76,12 +76,12 @@ fn parts() {
     let (_, log) = hard(2);
     let [mut a, mut b, mut c] = [[0u64; 32]; 3];
     let mut proved = || log.chunks(32).rev().fold(plain, |row, part| rozsvelen::judge_part(&sheet, Way::Ahead, &row, part, &mut a).unwrap());
-    let mut by_columns = || log.chunks(32).rev().fold(plain, |row, part| columns::part(sheet.numbers(), part, &mut b, &row, true).unwrap());
+    let mut by_bitsets = || log.chunks(32).rev().fold(plain, |row, part| bitsets::part(sheet.numbers(), part, &mut b, &row, true).unwrap());
     let mut by_steps = || log.chunks(32).rev().fold(plain, |row, part| steps::part(sheet.numbers(), part, &mut c, &row, true).unwrap());
-    assert_eq!([by_columns(), by_steps()], [proved(); 2], "the versions' rows differ");
-    let [proved, by_columns, by_steps] = time(100, [&mut work(proved), &mut work(by_columns), &mut work(by_steps)]);
+    assert_eq!([by_bitsets(), by_steps()], [proved(); 2], "the versions' rows differ");
+    let [proved, by_bitsets, by_steps] = time(100, [&mut work(proved), &mut work(by_bitsets), &mut work(by_steps)]);
     assert!(a == b && a == c, "parts: the versions' verdicts differ");
-    row("16 parts of 32 entries with rows, sheet W", proved, &[("columns", by_columns), ("steps", by_steps)]);
+    row("16 parts of 32 entries with rows, sheet W", proved, &[("bitsets", by_bitsets), ("steps", by_steps)]);
 }
 
 fn walking(name: &str, (text, log): (&str, &[u32]), node: usize, times: usize) {

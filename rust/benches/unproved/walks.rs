@@ -1,6 +1,6 @@
 //! The shortest walk with the lowest edges: only the nodes that the asked one stands on are judged; then breadth first backward over the edges that
 //! enter a state until the start is met, and forward by the lowest edge that comes one nearer.
-use super::columns::Judging;
+use super::bitsets::Judging;
 use super::given::given;
 use super::{automaton, filled, node, room, TABLE};
 use std::mem::MaybeUninit;
@@ -92,7 +92,7 @@ fn search<const B: usize>(t: &[u16; TABLE], log: &[u32], k: usize, i: usize, edg
     let (x, n) = (node(t, k), log.len());
     let mut judging = Judging::<B>::new(n);
     judging.nodes(t, log, stands_on(t, k), None);
-    let holds = |node: u16, j: usize| judging.column(node as usize & 63)[j / 64 % B] >> (j % 64) & 1 == 1;
+    let holds = |node: u16, j: usize| judging.bitset(node as usize & 63)[j / 64 % B] >> (j % 64) & 1 == 1;
     let m = automaton(t, x.a as usize);
     let edge = |number: usize| &m.edges[4 * number..4 * number + 4];
 

@@ -1,4 +1,4 @@
-//! Judging by columns: a word says of 64 entries where a node holds, or where a state is marked. Marks spread from state to state, 64 entries or more at
+//! Judging by bitsets: a word says of 64 entries where a node holds, or where a state is marked. Marks spread from state to state, 64 entries or more at
 //! a time, and only what is new spreads on. Many logs are judged as one long log in which no edge leads from one log to the next.
 mod bits;
 mod judging;
@@ -26,7 +26,7 @@ fn whole<const B: usize>(t: &[u16; TABLE], log: &[u32], verdicts: &mut [u64]) ->
     judging.nodes(t, log, u64::MAX, None);
     let nodes = t[1312] as usize;
     judging.write(nodes, &mut verdicts[..log.len()]);
-    judging.column(nodes - 1).iter().map(|c| c.count_ones() as usize).sum()
+    judging.bitset(nodes - 1).iter().map(|c| c.count_ones() as usize).sum()
 }
 
 /// Many logs of one sheet: their words one after the other, and how many each has. The verdicts and the counts, where there is no refusal.

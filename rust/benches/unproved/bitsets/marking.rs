@@ -1,18 +1,18 @@
 //! Marks spread backward along the edges, from the goals of one node.
-use super::bits::{bits, fill_down, fill_up, Column};
+use super::bits::{bits, fill_down, fill_up, Bitset};
 use super::judging::Judging;
 use crate::unproved::Automaton;
 
 /// The marks of one node: by state, the entries from which a goal is reached.
 pub struct Marking<'a, const B: usize> {
     judging: &'a Judging<B>,
-    pub marks: [Column<B>; 16],
+    pub marks: [Bitset<B>; 16],
     /// Marks that have not spread yet, the states that have some, and for each of them the blocks that may have some.
-    fresh: [Column<B>; 16],
+    fresh: [Bitset<B>; 16],
     due: u16,
     blocks: [u8; 16],
     /// A state's marks are among these; the states that have them all; the states that are asked for.
-    most: [Column<B>; 16],
+    most: [Bitset<B>; 16],
     full: u16,
     wanted: u16,
 }
@@ -20,7 +20,7 @@ pub struct Marking<'a, const B: usize> {
 impl<'a, const B: usize> Marking<'a, B> {
     /// The accepting states marked where the goal is.
     #[inline(always)]
-    pub fn new(judging: &'a Judging<B>, m: &Automaton, goal: &Column<B>, wanted: u16) -> Self {
+    pub fn new(judging: &'a Judging<B>, m: &Automaton, goal: &Bitset<B>, wanted: u16) -> Self {
         let mut x = Marking { judging, marks: [[0; B]; 16], fresh: [[0; B]; 16], due: 0, blocks: [0; 16], most: [[0; B]; 16], full: 0, wanted };
         let any = goal.iter().fold(0, |a, b| a | b) != 0;
         x.due = if any { m.accepting } else { 0 };
@@ -45,7 +45,7 @@ impl<'a, const B: usize> Marking<'a, B> {
         let Some(last) = self.judging.entries.checked_sub(1) else { return };
         let (at, dir) = if ahead { (last, 1) } else { (0, 2) };
         for e in m.edges.chunks_exact(4).filter(|e| e[1] == dir && exits >> e[3] & 1 == 1) {
-            let new = self.judging.column(e[2] as usize)[at / 64] & 1 << (at % 64);
+            let new = self.judging.bitset(e[2] as usize)[at / 64] & 1 << (at % 64);
             self.put(e[0] as usize, at / 64, new);
         }
     }
@@ -78,7 +78,7 @@ impl<'a, const B: usize> Marking<'a, B> {
             if B == 1 || blocks.is_power_of_two() {
                 self.spread_block(t, blocks.trailing_zeros() as usize % B);
             } else {
-                self.spread_column(t);
+                self.spread_bitset(t);
             }
         }
     }
@@ -95,27 +95,27 @@ impl<'a, const B: usize> Marking<'a, B> {
         let [stay, ahead, back] = edges.sources(t);
         // edges from t to itself are followed at once as far as they go
         if ahead >> t & 1 == 1 {
-            d |= fill_down(d, judging.column(edges.test(t, 16 + t))[w] & judging.goes[1][w]);
+            d |= fill_down(d, judging.bitset(edges.test(t, 16 + t))[w] & judging.goes[1][w]);
         }
         if back >> t & 1 == 1 {
-            d |= fill_up(d, judging.column(edges.test(t, 32 + t))[w] & judging.goes[2][w]);
+            d |= fill_up(d, judging.bitset(edges.test(t, 32 + t))[w] & judging.goes[2][w]);
         }
         self.marks[t][w] |= d;
         for s in bits(stay & !self.full) {
-            self.put(s, w, d & judging.column(edges.test(t, s))[w]);
+            self.put(s, w, d & judging.bitset(edges.test(t, s))[w]);
         }
         for s in bits(ahead & !self.full) {
-            let column = judging.column(edges.test(t, 16 + s));
-            self.put(s, w, d >> 1 & judging.goes[1][w] & column[w]);
+            let bitset = judging.bitset(edges.test(t, 16 + s));
+            self.put(s, w, d >> 1 & judging.goes[1][w] & bitset[w]);
             if w > 0 && d & 1 == 1 {
-                self.put(s, w - 1, d << 63 & judging.goes[1][w - 1] & column[w - 1]);
+                self.put(s, w - 1, d << 63 & judging.goes[1][w - 1] & bitset[w - 1]);
             }
         }
         for s in bits(back & !self.full) {
-            let column = judging.column(edges.test(t, 32 + s));
-            self.put(s, w, d << 1 & judging.goes[2][w] & column[w]);
+            let bitset = judging.bitset(edges.test(t, 32 + s));
+            self.put(s, w, d << 1 & judging.goes[2][w] & bitset[w]);
             if w + 1 < B && d >> 63 == 1 {
-                self.put(s, w + 1, d >> 63 & judging.goes[2][w + 1] & column[w + 1]);
+                self.put(s, w + 1, d >> 63 & judging.goes[2][w + 1] & bitset[w + 1]);
             }
         }
         if B == 1 {
@@ -139,7 +139,7 @@ impl<'a, const B: usize> Marking<'a, B> {
                 return;
             }
             let (s, w) = (at % 16, j / 64 % B);
-            let here = judging.column(edges.test(t, at))[w] & judging.goes[at / 16 % 3][w] & !self.marks[s][w] & 1 << (j % 64);
+            let here = judging.bitset(edges.test(t, at))[w] & judging.goes[at / 16 % 3][w] & !self.marks[s][w] & 1 << (j % 64);
             if here == 0 {
                 return;
             }
@@ -151,25 +151,25 @@ impl<'a, const B: usize> Marking<'a, B> {
     }
 
     /// What is fresh of state t, in all blocks at once.
-    fn spread_column(&mut self, t: usize) {
+    fn spread_bitset(&mut self, t: usize) {
         let judging = self.judging;
         let edges = &judging.edges;
         let mut d = std::mem::replace(&mut self.fresh[t], [0; B]);
         let sources = edges.sources(t);
         if sources[1] >> t & 1 == 1 {
-            let column = judging.column(edges.test(t, 16 + t));
+            let bitset = judging.bitset(edges.test(t, 16 + t));
             let mut carry = 0;
             for w in (0..B).rev() {
-                let way = column[w] & judging.goes[1][w];
+                let way = bitset[w] & judging.goes[1][w];
                 d[w] |= fill_down(d[w] | carry & way, way);
                 carry = d[w] << 63;
             }
         }
         if sources[2] >> t & 1 == 1 {
-            let column = judging.column(edges.test(t, 32 + t));
+            let bitset = judging.bitset(edges.test(t, 32 + t));
             let mut carry = 0;
             for w in 0..B {
-                let way = column[w] & judging.goes[2][w];
+                let way = bitset[w] & judging.goes[2][w];
                 d[w] |= fill_up(d[w] | carry & way, way);
                 carry = d[w] >> 63;
             }
@@ -179,24 +179,24 @@ impl<'a, const B: usize> Marking<'a, B> {
         }
         let next = |w: usize| if w + 1 < B { d[w + 1] } else { 0 };
         let before = |w: usize| if w > 0 { d[w - 1] } else { 0 };
-        let moved: [Column<B>; 3] = [
+        let moved: [Bitset<B>; 3] = [
             d,
             std::array::from_fn(|w| (d[w] >> 1 | next(w) << 63) & judging.goes[1][w]),
             std::array::from_fn(|w| (d[w] << 1 | before(w) >> 63) & judging.goes[2][w]),
         ];
         for dir in 0..3 {
             for s in bits(sources[dir] & !self.full) {
-                self.put_column(s, &moved[dir], judging.column(edges.test(t, 16 * dir + s)));
+                self.put_bitset(s, &moved[dir], judging.bitset(edges.test(t, 16 * dir + s)));
             }
         }
         self.full |= ((self.marks[t] == self.most[t]) as u16) << t;
     }
 
     #[inline(always)]
-    fn put_column(&mut self, s: usize, moved: &Column<B>, column: &Column<B>) {
+    fn put_bitset(&mut self, s: usize, moved: &Bitset<B>, bitset: &Bitset<B>) {
         let (mut any, mut lacks) = (0, 0);
         for w in 0..B {
-            let new = moved[w] & column[w] & !self.marks[s][w];
+            let new = moved[w] & bitset[w] & !self.marks[s][w];
             self.marks[s][w] |= new;
             self.fresh[s][w] |= new;
             any |= new;

@@ -1,30 +1,30 @@
-//! A log being judged, node by node: the columns of the nodes so far.
-use super::bits::{fact, transpose, Column};
+//! A log being judged, node by node: the bitsets of the nodes so far.
+use super::bits::{fact, transpose, Bitset};
 use super::marking::Marking;
 use crate::unproved::{automaton, node, room, Automaton, Row, TABLE};
 use std::mem::MaybeUninit;
 
-/// A column for each node, and after them one for each group of edges that differ only in the node tested (at least two of the 256 edges each).
-const COLUMNS: usize = 64 + 128;
+/// A bitset for each node, and after them one for each group of edges that differ only in the node tested (at least two of the 256 edges each).
+const BITSETS: usize = 64 + 128;
 
 /// A log being judged.
 pub struct Judging<const B: usize> {
-    columns: [MaybeUninit<Column<B>>; COLUMNS],
+    bitsets: [MaybeUninit<Bitset<B>>; BITSETS],
     pub(super) entries: usize,
     /// The entries that are there, and by direction those from which an edge does not leave its log.
-    there: Column<B>,
-    pub(super) goes: [Column<B>; 3],
+    there: Bitset<B>,
+    pub(super) goes: [Bitset<B>; 3],
     pub(super) edges: EdgeSets<B>,
 }
 
 /// An automaton's edges, made ready for the log at hand.
 pub(super) struct EdgeSets<const B: usize> {
     automaton: usize,
-    /// For state t at bit 16 d + s: whether an edge of direction d leads from state s to t; if so, the column of the entries where it can be taken.
+    /// For state t at bit 16 d + s: whether an edge of direction d leads from state s to t; if so, the bitset of the entries where it can be taken.
     pub(super) into: [u64; 16],
     tests: [MaybeUninit<u8>; 16 * 48],
     /// The entries at which some edge leaves a state.
-    pub(super) leaves: [Column<B>; 16],
+    pub(super) leaves: [Bitset<B>; 16],
 }
 
 impl<const B: usize> Judging<B> {
@@ -35,7 +35,7 @@ impl<const B: usize> Judging<B> {
             _ => u64::MAX,
         });
         Judging {
-            columns: room(),
+            bitsets: room(),
             entries,
             there,
             goes: [[u64::MAX; B]; 3],
@@ -43,11 +43,11 @@ impl<const B: usize> Judging<B> {
         }
     }
 
-    /// A column that was judged.
+    /// A bitset that was judged.
     #[inline(always)]
-    pub fn column(&self, k: usize) -> &Column<B> {
-        debug_assert!(k < COLUMNS);
-        unsafe { self.columns.get_unchecked(k).assume_init_ref() }
+    pub fn bitset(&self, k: usize) -> &Bitset<B> {
+        debug_assert!(k < BITSETS);
+        unsafe { self.bitsets.get_unchecked(k).assume_init_ref() }
     }
 
     /// Judges the wanted nodes in order, each of which stands on wanted ones; with a row beside a part, gives the part's own.
@@ -56,24 +56,24 @@ impl<const B: usize> Judging<B> {
         for k in (0..t[1312] as usize).filter(|k| wanted >> k & 1 == 1) {
             let x = node(t, k);
             let (a, b) = (x.a as usize, x.b as usize);
-            let column = match x.letter {
+            let bitset = match x.letter {
                 b'T' => self.there,
                 b'F' => [0; B],
                 b'P' => fact(log, x.a),
-                b'N' => std::array::from_fn(|w| self.there[w] & !self.column(a)[w]),
-                b'A' => std::array::from_fn(|w| self.column(a)[w] & self.column(b)[w]),
-                b'O' => std::array::from_fn(|w| self.column(a)[w] | self.column(b)[w]),
+                b'N' => std::array::from_fn(|w| self.there[w] & !self.bitset(a)[w]),
+                b'A' => std::array::from_fn(|w| self.bitset(a)[w] & self.bitset(b)[w]),
+                b'O' => std::array::from_fn(|w| self.bitset(a)[w] | self.bitset(b)[w]),
                 letter => {
                     let m = automaton(t, a);
                     if self.edges.automaton != a {
                         self.learn(a, &m);
                     }
-                    let (column, number) = self.modal(&m, letter == b'D', b, row.map(|(r, ahead)| (r[k], ahead)));
+                    let (bitset, number) = self.modal(&m, letter == b'D', b, row.map(|(r, ahead)| (r[k], ahead)));
                     next[k] = number;
-                    column
+                    bitset
                 }
             };
-            self.columns[k].write(column);
+            self.bitsets[k].write(bitset);
         }
         next
     }
@@ -87,7 +87,7 @@ impl<const B: usize> Judging<B> {
         for e in m.edges.chunks_exact(4) {
             let (from, dir, test, to) = (e[0] as usize & 15, e[1] as usize % 3, e[2] as usize & 63, e[3] as usize & 15);
             for w in 0..B {
-                self.edges.leaves[from][w] |= self.column(test)[w];
+                self.edges.leaves[from][w] |= self.bitset(test)[w];
             }
             let at = 16 * dir + from;
             if self.edges.into[to] >> at & 1 == 0 {
@@ -96,21 +96,21 @@ impl<const B: usize> Judging<B> {
                 continue;
             }
             let old = self.edges.test(to, at);
-            let either = std::array::from_fn(|w| self.column(old)[w] | self.column(test)[w]);
+            let either = std::array::from_fn(|w| self.bitset(old)[w] | self.bitset(test)[w]);
             if old >= 64 {
-                self.columns[old].write(either);
+                self.bitsets[old].write(either);
             } else if old != test {
-                self.columns[groups].write(either);
+                self.bitsets[groups].write(either);
                 self.edges.tests[48 * to + at].write(groups as u8);
                 groups += 1;
             }
         }
     }
 
-    /// A D or B node: its column, and with a number of the row beside a part its number in the part's own row.
-    fn modal(&self, m: &Automaton, some: bool, goal: usize, row: Option<(u16, bool)>) -> (Column<B>, u16) {
-        let turned = |c: &Column<B>| if some { *c } else { std::array::from_fn(|w| self.there[w] & !c[w]) };
-        let goal = turned(self.column(goal));
+    /// A D or B node: its bitset, and with a number of the row beside a part its number in the part's own row.
+    fn modal(&self, m: &Automaton, some: bool, goal: usize, row: Option<(u16, bool)>) -> (Bitset<B>, u16) {
+        let turned = |c: &Bitset<B>| if some { *c } else { std::array::from_fn(|w| self.there[w] & !c[w]) };
+        let goal = turned(self.bitset(goal));
         let all = ((1u32 << m.states) - 1) as u16;
         let mut marking = Marking::new(self, m, &goal, if row.is_some() { all } else { 1 << m.start });
         let mut number = 0;
@@ -134,15 +134,15 @@ impl<const B: usize> Judging<B> {
         if words.len() * nodes <= 512 {
             words.fill(0);
             for k in 0..nodes {
-                let column = self.column(k);
+                let bitset = self.bitset(k);
                 for (i, w) in words.iter_mut().enumerate() {
-                    *w |= (column[i / 64] >> (i % 64) & 1) << k;
+                    *w |= (bitset[i / 64] >> (i % 64) & 1) << k;
                 }
             }
             return;
         }
         for (b, words) in words.chunks_mut(64).enumerate() {
-            let mut square = std::array::from_fn(|k| if k < nodes { self.column(k)[b] } else { 0 });
+            let mut square = std::array::from_fn(|k| if k < nodes { self.bitset(k)[b] } else { 0 });
             transpose(&mut square);
             words.copy_from_slice(&square[..words.len()]);
         }
@@ -150,7 +150,7 @@ impl<const B: usize> Judging<B> {
 }
 
 impl<const B: usize> EdgeSets<B> {
-    /// The column of an edge into state t that is there.
+    /// The bitset of an edge into state t that is there.
     #[inline(always)]
     pub(super) fn test(&self, t: usize, at: usize) -> usize {
         unsafe { self.tests[48 * t + at].assume_init() as usize }

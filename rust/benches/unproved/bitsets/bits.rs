@@ -1,8 +1,8 @@
-//! Words of bits, and columns of them.
+//! Words of bits, and bitsets of them.
 use std::arch::x86_64::{_mm_castsi128_ps, _mm_cvtsi32_si128, _mm_loadu_si128, _mm_movemask_ps, _mm_sll_epi32};
 
 /// A bit for each of 64 B entries.
-pub type Column<const B: usize> = [u64; B];
+pub type Bitset<const B: usize> = [u64; B];
 
 /// The numbers of the bits that are set.
 #[inline(always)]
@@ -35,9 +35,9 @@ pub fn fill_up(mut bits: u64, mut way: u64) -> u64 {
 }
 
 /// Where the log has a fact, four entries at a time.
-pub fn fact<const B: usize>(log: &[u32], fact: u8) -> Column<B> {
-    let mut column = [0; B];
-    for (c, block) in column.iter_mut().zip(log.chunks(64)) {
+pub fn fact<const B: usize>(log: &[u32], fact: u8) -> Bitset<B> {
+    let mut bitset = [0; B];
+    for (c, block) in bitset.iter_mut().zip(log.chunks(64)) {
         let fours = block.chunks_exact(4);
         for (i, x) in fours.remainder().iter().enumerate() {
             *c |= ((x >> (fact & 31) & 1) as u64) << (block.len() / 4 * 4 + i);
@@ -51,7 +51,7 @@ pub fn fact<const B: usize>(log: &[u32], fact: u8) -> Column<B> {
             *c |= (signs as u64) << (4 * i);
         }
     }
-    column
+    bitset
 }
 
 /// Bit j of word i becomes bit i of word j.
