@@ -58,13 +58,6 @@ pub(crate) fn has(mask: u16, s: u16) -> bool
     (mask >> s) % 2 == 1
 }
 
-// The mask with another's states where it is on.
-fn joined(mask: u16, more: u16, on: bool) -> u16
-    ensures { λ r. ⌜ r ≡ pick on (bitOr mask more) mask ⌝ }
-{
-    if on { mask | more } else { mask }
-}
-
 // The mask of bit s alone.
 pub(crate) fn one_bit(s: u16) -> u16
     requires { ⌜ s < stateLimit ⌝ }
@@ -181,7 +174,7 @@ fn pivot(k: u16, place: usize, steps: &mut [u16])
     let mut u: usize = 0;
     while u < 16 {
         let x = steps[place + u];
-        steps[place + u] = joined(x, into, has(x, k));
+        steps[place + u] = chosen(has(x, k), x | into, x);
         u += 1;
     }
 }

@@ -23,22 +23,18 @@ use Rattle.batch.proofs.judge_logs.Tie as tie
 self : (t : Table) (edges : List ℕ) (r : Prepared) → PreparedFor t edges r → PreparedFor (r .table) edges r
 self t edges r P = subst (λ (z : Table). PreparedFor z edges r) (sym (P .table-is)) P
 
--- src/lib.rt:34:9
 asked-requires : tie.Need-asked-requires
 asked-requires c κs = search needs
 
--- src/lib.rt:36:9
 returns : tie.Need-returns
 returns c =
     let a = c .before .before .before .before .before .before .before .args in
     let q = c .before .before .asked in
     ends-refused (wellFormed (a .table)) (sheetOf (a .table)) (now (a .words)) (now (a .lengths)) (now (a .verdicts)) (now (a .held)) (q .result) (q .ensures) (c .if1 .taken)
 
--- src/lib.rt:39:31
 slice-aggregate-prepare : tie.Need-slice-aggregate-prepare
 slice-aggregate-prepare c = search needs
 
--- src/lib.rt:39:9
 prepare-requires : tie.Need-prepare-requires
 prepare-requires c κs =
     let a = c .before .before .before .before .before .before .before .before .args in
@@ -46,11 +42,9 @@ prepare-requires c κs =
     let yes = accepted (wellFormed (a .table)) (length (now (a .words))) (now (a .lengths)) (length (now (a .verdicts))) (length (now (a .held))) (sym (ap (λ (x : BatchAnswer). x .number) (q .ensures)) ∙ c .before .if1 .left) in
     (table-facts (a .table) (yes .0), omega arith)
 
--- src/lib.rt:40:22
 slice-aggregate-judge-each : tie.Need-slice-aggregate-judge-each
 slice-aggregate-judge-each c = search needs
 
--- src/lib.rt:40:5
 judge-each-requires : tie.Need-judge-each-requires
 judge-each-requires c κs =
     let a = c .before .before .before .before .before .before .before .before .before .before .before .before .before .args in
@@ -59,15 +53,12 @@ judge-each-requires c κs =
     let yes = accepted (wellFormed (a .table)) (length (now (a .words))) (now (a .lengths)) (length (now (a .verdicts))) (length (now (a .held))) (sym (ap (λ (x : BatchAnswer). x .number) (q .ensures)) ∙ c .before .before .before .before .before .before .if1 .left) in
     ((subst TableFacts (sym (P .table-is)) (table-facts (a .table) (yes .0)), self _ _ _ P), (yes .1, yes .2))
 
--- src/lib.rt:24:1
 same-length : tie.Need-same-length
 same-length c = search needs
 
--- src/lib.rt:24:1
 same-length-2 : tie.Need-same-length-2
 same-length-2 c = search needs
 
--- src/lib.rt:24:1
 returns-2 : tie.Need-returns-2
 returns-2 c =
     let a = c .before .before .before .before .before .before .before .before .before .before .before .before .before .before .before .before .before .before .args in

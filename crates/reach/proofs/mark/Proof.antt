@@ -18,24 +18,19 @@ use Rattle.reach.proofs.spreading.rise.Reads as rise-reads
 use Rattle.reach.proofs.spreading.sweep.Reads as sweep-reads
 use Rattle.reach.proofs.steps.has.Reads as has-reads
 
--- src/lib.rt:42:5
 seed-requires : tie.Need-seed-requires
 seed-requires c κs = search needs
 
--- src/lib.rt:43:5
 sweep-requires : tie.Need-sweep-requires
 sweep-requires c κs = let S = c .before .before .before .before .before .before .before .before in
     subst (λ (n : ℕ). Placed n (now (S .args .steps))) (sym (c .before .before .before .seed .kept .1 .1 .0 ∙ S .pre .1 .1)) (S .pre .0)
 
--- src/lib.rt:44:9
 has-requires : tie.Need-has-requires
 has-requires c κs = search needs
 
--- src/lib.rt:45:9
 same-length : tie.Need-same-length
 same-length c = search needs
 
--- src/lib.rt:45:9
 returns : tie.Need-returns
 returns c = let S = c .before .before .before .before .before .before .before .before .before .before .before .before .before in
     let g = S .args .goal in
@@ -47,17 +42,14 @@ returns c = let S = c .before .before .before .before .before .before .before .b
     (c .before .before .before .before .sweep .ensures .1 E W seeds f told F
     (marking-start E (g .exits) W seeds (r .kept .1 .1 .0 ∙ S .pre .1 .1) (λ i l. omega (arith, c .before .before .before .before .before .before .slice-known2 .given i)))))
 
--- src/lib.rt:47:5
 rise-requires : tie.Need-rise-requires
 rise-requires c κs = let S = c .before .before .before .before .before .before .before .before .before .before .before .before .before .before in
     let same = c .before .before .before .before .before .sweep .ensures .0 ∙ c .before .before .before .before .before .before .before .before .before .seed .kept .1 .1 .0 ∙ S .pre .1 .1 in
     (subst (λ (n : ℕ). Placed n (now (S .args .steps))) (sym same) (S .pre .0), omega (arith, same, S .pre .1 .2))
 
--- src/lib.rt:36:1
 same-length-2 : tie.Need-same-length-2
 same-length-2 c = search needs
 
--- src/lib.rt:36:1
 returns-2 : tie.Need-returns-2
 returns-2 c = let S = c .before .before .before .before .before .before .before .before .before .before .before .before .before .before .before .before .before in
     let g = S .args .goal in

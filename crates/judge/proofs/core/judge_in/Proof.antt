@@ -16,35 +16,27 @@ use Rattle.judge.proofs.core.judge_in.Lts as lts
 use Rattle.judge.proofs.core.judge_nodes.Reads as judge-nodes-reads
 use Rattle.judge.proofs.core.put_words.Reads as put-words-reads
 
--- src/core.rt:112:9
 slice-relend-prefix-judge-nodes : tie.Need-slice-relend-prefix-judge-nodes
 slice-relend-prefix-judge-nodes c = search needs
 
--- src/core.rt:112:9
 slice-aggregate-judge-nodes : tie.Need-slice-aggregate-judge-nodes
 slice-aggregate-judge-nodes c = let S = c .before .before .before .before .before .before .before in sym (length-take-le _ _ (S .pre .1 .1 .1 .0 .0))
 
--- src/core.rt:113:22
 mul-judge-nodes : tie.Need-mul-judge-nodes
 mul-judge-nodes c = search needs
 
--- src/core.rt:113:9
 slice-relend-prefix-judge-nodes-2 : tie.Need-slice-relend-prefix-judge-nodes-2
 slice-relend-prefix-judge-nodes-2 c = search needs
 
--- src/core.rt:113:9
 slice-aggregate-judge-nodes-2 : tie.Need-slice-aggregate-judge-nodes-2
 slice-aggregate-judge-nodes-2 c = let S = c .before .before .before .before .before .before .before .before in sym (length-take-le _ _ (S .pre .1 .1 .1 .0 .1))
 
--- src/core.rt:114:9
 slice-relend-prefix-judge-nodes-3 : tie.Need-slice-relend-prefix-judge-nodes-3
 slice-relend-prefix-judge-nodes-3 c = search needs
 
--- src/core.rt:114:9
 slice-aggregate-judge-nodes-3 : tie.Need-slice-aggregate-judge-nodes-3
 slice-aggregate-judge-nodes-3 c = let S = c .before .before .before .before .before .before .before .before .before in sym (length-take-le _ _ (S .pre .1 .1 .1 .0 .2))
 
--- src/core.rt:108:9
 judge-nodes-requires : tie.Need-judge-nodes-requires
 judge-nodes-requires c κs = let S = c .before .before .before .before .before .before .before .before .before in
     let fit = S .pre .1 .1 .1 .0 in
@@ -67,35 +59,27 @@ cut : (c : tie.After-judge-nodes) → let S = c .before .before .before .before 
     length (take (length (now (S .args .log))) (c .judge-nodes .last .1 .1 .1 .0 ++ drop (length (now (S .args .log))) (now (S .args .words)))) ≡ length (now (S .args .log))
 cut c = let S = c .before .before .before .before .before .before .before .before .before .before in ap (λ (l : List ℕ). length l) (lent-back _ (c .judge-nodes .last .1 .1 .1 .0) (now (S .args .words)) (long c)) ∙ long c
 
--- src/core.rt:116:15
 slice-reshare-prefix-put-words : tie.Need-slice-reshare-prefix-put-words
 slice-reshare-prefix-put-words c = search needs
 
--- src/core.rt:116:15
 slice-aggregate-put-words : tie.Need-slice-aggregate-put-words
 slice-aggregate-put-words c = sym (cut (c .before .before .before .before .before .before .before))
 
--- src/core.rt:116:5
 put-words-requires : tie.Need-put-words-requires
 put-words-requires c κs = let S = c .before .before .before .before .before .before .before .before .before .before .before .before .before .before .before .before .before .before in omega (arith, cut (c .before .before .before .before .before .before .before .before), S .pre .1 .1 .0)
 
--- src/core.rt:91:1
 same-length : tie.Need-same-length
 same-length c = search needs
 
--- src/core.rt:91:1
 same-length-2 : tie.Need-same-length-2
 same-length-2 c = search needs
 
--- src/core.rt:91:1
 same-length-3 : tie.Need-same-length-3
 same-length-3 c = search needs
 
--- src/core.rt:91:1
 same-length-4 : tie.Need-same-length-4
 same-length-4 c = search needs
 
--- src/core.rt:91:1
 returns : tie.Need-returns
 returns c = let S = c .before .before .before .before .before .before .before .before .before .before .before .before .before .before .before .before .before .before .before .before .before in
     let r = c .before .before .before .before .before .before .before .before .before .before .before .judge-nodes in

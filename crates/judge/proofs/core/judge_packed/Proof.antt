@@ -9,55 +9,43 @@ use Rattle.judge.proofs.core.judge_packed.Reads as reads
 use Rattle.judge.proofs.core.judge_packed.Lts as lts
 use Rattle.judge.proofs.core.judge_in.Reads as judge-in-reads
 
--- src/core.rt:71:13
 slice-aggregate-judge-in : tie.Need-slice-aggregate-judge-in
 slice-aggregate-judge-in c = search needs
 
--- src/core.rt:72:13
 slice-aggregate-judge-in-2 : tie.Need-slice-aggregate-judge-in-2
 slice-aggregate-judge-in-2 c = search needs
 
--- src/core.rt:73:13
 slice-aggregate-judge-in-3 : tie.Need-slice-aggregate-judge-in-3
 slice-aggregate-judge-in-3 c = search needs
 
--- src/core.rt:66:9
 judge-in-requires : tie.Need-judge-in-requires
 judge-in-requires c κs = let S = c .before .before .before .before .before .before .before .before in
     let few = c .before .before .before .before .if1 .taken in
     (S .pre .0, (S .pre .1 .0, (S .pre .1 .1, ((few, omega arith, few), λ i l. zeros-at 32 i))))
 
--- src/core.rt:66:9
 same-length : tie.Need-same-length
 same-length c = search needs
 
--- src/core.rt:66:9
 returns : tie.Need-returns
 returns c = search needs
 
--- src/core.rt:84:9
 slice-aggregate-judge-in-4 : tie.Need-slice-aggregate-judge-in-4
 slice-aggregate-judge-in-4 c = search needs
 
--- src/core.rt:85:9
 slice-aggregate-judge-in-5 : tie.Need-slice-aggregate-judge-in-5
 slice-aggregate-judge-in-5 c = search needs
 
--- src/core.rt:86:9
 slice-aggregate-judge-in-6 : tie.Need-slice-aggregate-judge-in-6
 slice-aggregate-judge-in-6 c = search needs
 
--- src/core.rt:79:5
 judge-in-requires-2 : tie.Need-judge-in-requires-2
 judge-in-requires-2 c κs = let S = c .before .before .before .before .before .before .before .before in
     let n = S .pre .1 .1 .1 in
     (S .pre .0, (S .pre .1 .0, (S .pre .1 .1, ((n, omega arith, n), λ i l. zeros-at entryLimit i))))
 
--- src/core.rt:51:1
 same-length-2 : tie.Need-same-length-2
 same-length-2 c = search needs
 
--- src/core.rt:51:1
 returns-2 : tie.Need-returns-2
 returns-2 c = search needs
 

@@ -16,31 +16,24 @@ use Rattle.judge.proofs.rows.facing_mask.Reads as facing-mask-reads
 use Rattle.judge.proofs.rows.row_number.Reads as row-number-reads
 use Rattle.reach.proofs.mark.Reads as mark-reads
 
--- src/nodes.rt:131:16
 facing-mask-requires : tie.Need-facing-mask-requires
 facing-mask-requires c κs = search needs
 
--- src/nodes.rt:134:5
 mark-requires : tie.Need-mark-requires
 mark-requires c κs = search needs
 
--- src/nodes.rt:135:9
 write-modal-requires : tie.Need-write-modal-requires
 write-modal-requires c κs = search needs
 
--- src/nodes.rt:136:9
 row-number-requires : tie.Need-row-number-requires
 row-number-requires c κs = search needs
 
--- src/nodes.rt:114:1
 same-length : tie.Need-same-length
 same-length c = search needs
 
--- src/nodes.rt:114:1
 same-length-2 : tie.Need-same-length-2
 same-length-2 c = search needs
 
--- src/nodes.rt:114:1
 returns : tie.Need-returns
 returns c = let S = c .before .before .before .before .before .before .before .before .before .before .before .before .before .before .before .before .before in
     let j = S .args .job in

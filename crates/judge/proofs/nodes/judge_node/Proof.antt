@@ -14,11 +14,9 @@ use Rattle.judge.proofs.lines.is_modal.Reads as is-modal-reads
 use Rattle.judge.proofs.nodes.judge_modal.Reads as judge-modal-reads
 use Rattle.judge.proofs.nodes.judge_plain.Reads as judge-plain-reads
 
--- src/nodes.rt:87:9
 is-modal-requires : tie.Need-is-modal-requires
 is-modal-requires c κs = search needs
 
--- src/nodes.rt:88:13
 judge-plain-requires : tie.Need-judge-plain-requires
 judge-plain-requires c κs = let S = c .before .before .before .before .before .before .before .before in
     let t = S .pre .0 .0 in
@@ -29,16 +27,13 @@ judge-plain-requires c κs = let S = c .before .before .before .before .before .
       (known-few t row (S .args .job) (now (S .args .log)) E (now (S .args .words)) K, K .words-are .size, known-low t row (S .args .job) (now (S .args .log)) E (now (S .args .words)) K),
     )
 
--- src/nodes.rt:89:9
 same-length : tie.Need-same-length
 same-length c = search needs
 
--- src/nodes.rt:89:9
 returns : tie.Need-returns
 returns c = let S = c .before .before .before .before .before .before .before .before .before .before .before in
     λ t row E K F. plain-done t row (S .args .job) (now (S .args .log)) E (now (S .args .words)) K (sym (c .before .before .before .before .before .is-modal .ensures) ∙ not-true _ (c .before .before .before .before .if1 .taken)) _ _ (c .before .before .judge-plain .ensures)
 
--- src/nodes.rt:91:5
 judge-modal-requires : tie.Need-judge-modal-requires
 judge-modal-requires c κs = let S = c .before .before .before .before .before .before .before .before .before in
     let t = S .pre .0 .0 in
@@ -49,15 +44,12 @@ judge-modal-requires c κs = let S = c .before .before .before .before .before .
     let a = asks t row (S .args .job) (now (S .args .log)) E (now (S .args .words)) K m in
     (S .pre .1 .0 m, (a .job-ok, (S .pre .1 .1 .0 ∙ sym (K .words-are .size), omega (arith, S .pre .1 .1 .1, K .words-are .size), known-low t row (S .args .job) (now (S .args .log)) E (now (S .args .words)) K)))
 
--- src/nodes.rt:72:1
 same-length-2 : tie.Need-same-length-2
 same-length-2 c = search needs
 
--- src/nodes.rt:72:1
 same-length-3 : tie.Need-same-length-3
 same-length-3 c = search needs
 
--- src/nodes.rt:72:1
 returns-2 : tie.Need-returns-2
 returns-2 c = let S = c .before .before .before .before .before .before .before .before .before .before .before .before .before .before in
     let m = sym (c .before .before .before .before .before .before .before .before .is-modal .ensures) ∙ not-false _ (c .before .before .before .before .before .before .before .if1 .left) in

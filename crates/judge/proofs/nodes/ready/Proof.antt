@@ -14,7 +14,6 @@ use Rattle.judge.proofs.nodes.ready.Lts as lts
 use Rattle.judge.proofs.lines.is_modal.Reads as is-modal-reads
 use Rattle.reach.proofs.filling.fill.Reads as fill-reads
 
--- src/nodes.rt:56:9
 -- on the way of a D or B
 modal : (c : tie.Else1) → modalKind (c .before .before .before .before .before .args .job .line .kind) ≡ true
 modal c = sym (c .before .is-modal .ensures) ∙ not-false _ (c .if1 .left)
@@ -22,57 +21,45 @@ modal c = sym (c .before .is-modal .ensures) ∙ not-false _ (c .if1 .left)
 is-modal-requires : tie.Need-is-modal-requires
 is-modal-requires c κs = search needs
 
--- src/nodes.rt:57:9
 returns : tie.Need-returns
 returns c = let S = c .before .before .before .before .before in
     λ t row log K C. ready-plain t row (S .args .job) log (now (S .args .edges)) (now (S .args .words)) K (S .args .have) (now (S .args .steps)) (sym (c .before .is-modal .ensures) ∙ not-true _ (c .if1 .taken)) C
 
--- src/nodes.rt:60:9
 returns-2 : tie.Need-returns-2
 returns-2 c = let S = c .before .before .before .before .before .before .before in
     λ t row log K C. ready-same t row (S .args .job) log (now (S .args .edges)) (now (S .args .words)) K (modal (c .before .before)) (S .args .have) (now (S .args .steps)) (c .if2 .taken) C
 
--- src/nodes.rt:62:17
 cast-first : tie.Need-cast-first
 cast-first c = search needs
 
--- src/nodes.rt:63:25
 cast-last : tie.Need-cast-last
 cast-last c = search needs
 
--- src/nodes.rt:63:16
 add-last : tie.Need-add-last
 add-last c = search needs
 
--- src/nodes.rt:64:38
 mul-fill : tie.Need-mul-fill
 mul-fill c = search needs
 
--- src/nodes.rt:64:38
 sub-fill : tie.Need-sub-fill
 sub-fill c = search needs
 
--- src/nodes.rt:64:38
 part-fill-start : tie.Need-part-fill-start
 part-fill-start c = search needs
 
--- src/nodes.rt:64:38
 part-fill-end : tie.Need-part-fill-end
 part-fill-end c = let k = c .before .before .before .before in
     let S = k .before .before .before .before .before in
     asks (S .pre .0 .0) (S .pre .0 .1) (S .args .job) (S .pre .0 .2) (now (S .args .edges)) (now (S .args .words)) (S .pre .0 .3) (modal k) .room
 
--- src/nodes.rt:64:9
 fill-requires : tie.Need-fill-requires
 fill-requires c κs = let k = c .before .before .before .before .before .before in
     let S = k .before .before .before .before .before in
     (asks (S .pre .0 .0) (S .pre .0 .1) (S .args .job) (S .pre .0 .2) (now (S .args .edges)) (now (S .args .words)) (S .pre .0 .3) (modal k) .edges-ok, S .pre .1)
 
--- src/nodes.rt:49:1
 same-length : tie.Need-same-length
 same-length c = search needs
 
--- src/nodes.rt:49:1
 returns-3 : tie.Need-returns-3
 returns-3 c = let k = c .before .before .before .before .before .before .before .before .before in
     let S = k .before .before .before .before .before in

@@ -15,15 +15,12 @@ use Rattle.judge.proofs.prepared.judge_log.Reads as reads
 use Rattle.judge.proofs.prepared.judge_log.Lts as lts
 use Rattle.judge.proofs.core.judge_packed.Reads as judge-packed-reads
 
--- src/prepared.rt:51:9
 judge-packed-requires : tie.Need-judge-packed-requires
 judge-packed-requires c κs = search needs
 
--- src/prepared.rt:37:1
 same-length : tie.Need-same-length
 same-length c = search needs
 
--- src/prepared.rt:37:1
 returns : tie.Need-returns
 unfolding sheetOf
 returns c = let S = c .before .before .before .before .before .before .before .before .before in

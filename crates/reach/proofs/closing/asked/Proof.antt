@@ -9,15 +9,12 @@ use Rattle.reach.proofs.closing.asked.Reads as reads
 use Rattle.reach.proofs.closing.asked.Lts as lts
 use Rattle.reach.proofs.steps.has.Reads as has-reads
 
--- src/closing.rt:61:5
 has-requires : tie.Need-has-requires
 has-requires c κs = search needs
 
--- src/closing.rt:61:24
 has-requires-2 : tie.Need-has-requires-2
 has-requires-2 c κs = search needs
 
--- src/closing.rt:58:1
 returns : tie.Need-returns
 returns c = let a = c .before .before .args in ap₂ (λ (x y : Bool). x && (y || not (eqb (a .grown) (a .start)))) (c .before .has .ensures) (c .has2 .ensures)
 

@@ -15,35 +15,27 @@ use Rattle.reach.proofs.closing.beside.Reads as beside-reads
 use Rattle.reach.proofs.closing.within.Reads as within-reads
 use Rattle.reach.proofs.steps.has.Reads as has-reads
 
--- src/closing.rt:27:24
 has-requires : tie.Need-has-requires
 has-requires c κs = search needs
 
--- src/closing.rt:27:46
 add-beside : tie.Need-add-beside
 add-beside c = search needs
 
--- src/closing.rt:27:9
 beside-requires : tie.Need-beside-requires
 beside-requires c κs = search needs
 
--- src/closing.rt:28:25
 has-requires-2 : tie.Need-has-requires-2
 has-requires-2 c κs = search needs
 
--- src/closing.rt:28:47
 add-beside-2 : tie.Need-add-beside-2
 add-beside-2 c = search needs
 
--- src/closing.rt:28:9
 beside-requires-2 : tie.Need-beside-requires-2
 beside-requires-2 c κs = search needs
 
--- src/closing.rt:29:5
 within-requires : tie.Need-within-requires
 within-requires c κs = search needs
 
--- src/closing.rt:22:1
 returns : tie.Need-returns
 returns c = let S = c .before .before .before .before .before .before in
     let a = S .args in

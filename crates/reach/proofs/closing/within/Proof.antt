@@ -12,20 +12,16 @@ use Rattle.reach.proofs.closing.within.Lts as lts
 use Rattle.reach.proofs.closing.asked.Reads as asked-reads
 use Rattle.reach.proofs.steps.pull.Reads as pull-reads
 
--- src/closing.rt:51:9
 asked-requires : tie.Need-asked-requires
 asked-requires c κs = search needs
 
--- src/closing.rt:52:9
 returns : tie.Need-returns
 returns c = let a = c .before .before .before .args in
     record { within = 0; beside = beside-off _ (now (a .steps)) (a .place) (a .grown) (sym (c .before .asked .ensures) ∙ not-true _ (c .if1 .taken)); result = sym (or-zero-r (a .grown)) }
 
--- src/closing.rt:54:13
 pull-requires : tie.Need-pull-requires
 pull-requires c κs = search needs
 
--- src/closing.rt:47:1
 returns-2 : tie.Need-returns-2
 returns-2 c = let a = c .before .before .before .before .args in
     record { within = c .pull .result; beside = beside-on _ (now (a .steps)) (a .place) (a .grown) _ (sym (c .before .before .asked .ensures) ∙ not-false _ (c .before .if1 .left)) (c .pull .ensures); result = refl }

@@ -8,27 +8,21 @@ use Rattle.reach.proofs.filling.alike.Tie as tie
 use Rattle.reach.proofs.filling.alike.Reads as reads
 use Rattle.reach.proofs.filling.alike.Lts as lts
 
--- src/filling.rt:85:9
 returns : tie.Need-returns
 returns c = λ e. absurd (false≢true e)
 
--- src/filling.rt:87:5
 mul-result : tie.Need-mul-result
 mul-result c = search needs
 
--- src/filling.rt:87:5
 shared-slice-read-result : tie.Need-shared-slice-read-result
 shared-slice-read-result c = search needs
 
--- src/filling.rt:87:26
 mul-result-2 : tie.Need-mul-result-2
 mul-result-2 c = search needs
 
--- src/filling.rt:87:26
 shared-slice-read-result-2 : tie.Need-shared-slice-read-result-2
 shared-slice-read-result-2 c = search needs
 
--- src/filling.rt:80:1
 returns-2 : tie.Need-returns-2
 returns-2 c = λ e. (omega (arith, c .before .before .if1 .left), eqb-true _ _ e)
 

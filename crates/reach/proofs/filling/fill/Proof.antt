@@ -22,74 +22,57 @@ Inv-loop edges words steps₀ traits seen₀ i₀ steps seen i = (i ≤ length w
 abbrev μ-loop : tie.MeasureT-loop
 μ-loop edges words steps₀ traits seen₀ i₀ steps seen i = length words - i
 
--- src/filling.rt:37:9
 traits-of-requires : tie.Need-traits-of-requires Inv-loop μ-loop
 traits-of-requires c κs = search needs
 
--- src/filling.rt:40:5
 loop-holds : tie.Need-loop-holds Inv-loop μ-loop
 loop-holds c = let S = c .before .before .before .before in (omega arith, refl, filling-none (now (S .args .edges)) (now (S .args .words)) (length (now (S .args .words))) (now (S .args .steps)) (S .pre .1 .0))
 
--- src/filling.rt:41:28
 mul-slot-of : tie.Need-mul-slot-of Inv-loop μ-loop
 mul-slot-of c = search needs
 
--- src/filling.rt:41:28
 shared-slice-read-slot-of : tie.Need-shared-slice-read-slot-of Inv-loop μ-loop
 shared-slice-read-slot-of c = search needs
 
--- src/filling.rt:41:13
 slot-of-requires : tie.Need-slot-of-requires Inv-loop μ-loop
 slot-of-requires c κs = search needs
 
--- src/filling.rt:44:24
 mul-wide : tie.Need-mul-wide Inv-loop μ-loop
 mul-wide c = search needs
 
--- src/filling.rt:44:24
 array-read-wide : tie.Need-array-read-wide Inv-loop μ-loop
 array-read-wide c = search needs
 
--- src/filling.rt:44:19
 wide-requires : tie.Need-wide-requires Inv-loop μ-loop
 wide-requires c κs = search needs
 
--- src/filling.rt:46:9
 place-entry-requires : tie.Need-place-entry-requires Inv-loop μ-loop
 place-entry-requires c κs = let S = c .before .before .before .before .before .before .before .before .before .before .before in
     let l = c .before .before .before .before .before .before .loop in
     (S .pre .0, (c .before .before .before .before .before .before .before .traits-of .ensures .1, ((S .pre .1 .1, c .before .before .before .before .before .loop-test .taken), l .inv .2)))
 
--- src/filling.rt:47:22
 cast-seen : tie.Need-cast-seen Inv-loop μ-loop
 cast-seen c = search needs
 
--- src/filling.rt:47:9
 mul-seen : tie.Need-mul-seen Inv-loop μ-loop
 mul-seen c = search needs
 
--- src/filling.rt:47:9
 array-write-seen : tie.Need-array-write-seen Inv-loop μ-loop
 array-write-seen c = search needs
 
--- src/filling.rt:48:9
 add-i : tie.Need-add-i Inv-loop μ-loop
 add-i c = search needs
 
--- src/filling.rt:40:5
 loop-less : tie.Need-loop-less Inv-loop μ-loop
 loop-less c = search needs
 
--- src/filling.rt:40:5
 loop-again : tie.Need-loop-again Inv-loop μ-loop
 loop-again c = let l = c .before .before .before .before .before .before .before .before .before .loop in
     (omega (arith, c .before .before .before .before .before .before .before .before .loop-test .taken), length-set (l .seen) (c .before .before .before .before .before .slot-of .result) (l .i) ∙ l .inv .1, c .before .before .place-entry .ensures)
 
--- src/filling.rt:30:1
 same-length : tie.Need-same-length Inv-loop μ-loop
 same-length c = c .before .loop .inv .2 .long ∙ sym (c .before .before .before .before .before .before .pre .1 .0)
 
--- src/filling.rt:30:1
 returns : tie.Need-returns Inv-loop μ-loop
 returns c = let S = c .before .before .before .before .before .before in
     let l = c .before .loop in

@@ -13,75 +13,58 @@ use Rattle.reach.proofs.filling.place_entry.Lts as lts
 use Rattle.reach.proofs.filling.alike.Reads as alike-reads
 use Rattle.reach.proofs.steps.make.Reads as make-reads
 
--- src/filling.rt:70:8
 alike-requires : tie.Need-alike-requires
 alike-requires c κs = search needs
 
--- src/filling.rt:71:20
 mul-steps : tie.Need-mul-steps
 mul-steps c = let S = c .before .before .before .before .before in omega (arith, c .before .alike .ensures (c .if1 .taken) .0, S .pre .1 .1 .0)
 
--- src/filling.rt:71:20
 slice-read-steps : tie.Need-slice-read-steps
 slice-read-steps c = let S = c .before .before .before .before .before .before in omega (arith, c .before .before .alike .ensures (c .before .if1 .taken) .0, S .pre .1 .1 .0, S .pre .1 .1 .1 .long)
 
--- src/filling.rt:71:9
 mul-steps-2 : tie.Need-mul-steps-2
 mul-steps-2 c = search needs
 
--- src/filling.rt:71:9
 slice-write-steps : tie.Need-slice-write-steps
 slice-write-steps c = search needs
 
--- src/filling.rt:72:9
 same-length : tie.Need-same-length
 same-length c = search needs
 
--- src/filling.rt:72:9
 returns : tie.Need-returns
 returns c = let S = c .before .before .before .before .before .before in
     let found = c .before .before .alike .ensures (c .before .if1 .taken) in
     filling-like (now (S .args .edges)) (S .pre .0) (now (S .args .words)) (S .args .tested) (length (now (S .args .words))) (S .args .pair .entry) (S .args .pair .like) (now (S .args .steps))
     (S .pre .1 .0) (S .pre .1 .1 .0 .1) (found .0) (found .1) (S .pre .1 .1 .1)
 
--- src/filling.rt:74:31
 mul-place : tie.Need-mul-place
 mul-place c = search needs
 
--- src/filling.rt:74:17
 add-place : tie.Need-add-place
 add-place c = search needs
 
--- src/filling.rt:75:16
 cast-steps : tie.Need-cast-steps
 cast-steps c = search needs
 
--- src/filling.rt:75:5
 mul-steps-3 : tie.Need-mul-steps-3
 mul-steps-3 c = search needs
 
--- src/filling.rt:75:5
 slice-write-steps-2 : tie.Need-slice-write-steps-2
 slice-write-steps-2 c = search needs
 
--- src/filling.rt:76:17
 mul-make : tie.Need-mul-make
 mul-make c = search needs
 
--- src/filling.rt:76:17
 shared-slice-read-make : tie.Need-shared-slice-read-make
 shared-slice-read-make c = search needs
 
--- src/filling.rt:76:5
 make-requires : tie.Need-make-requires
 make-requires c κs = let S = c .before .before .before .before .before .before .before in
     (S .pre .0, omega (arith, length-set (now (S .args .steps)) (S .args .pair .entry) (length (now (S .args .words)) + 48 * S .args .pair .entry), S .pre .1 .1 .0, S .pre .1 .1 .1 .long))
 
--- src/filling.rt:61:1
 same-length-2 : tie.Need-same-length-2
 same-length-2 c = let S = c .before .before .before .before .before .before .before .before .before .before in c .before .before .make .ensures .0 .same ∙ length-set (now (S .args .steps)) (S .args .pair .entry) _
 
--- src/filling.rt:61:1
 returns-2 : tie.Need-returns-2
 returns-2 c = let S = c .before .before .before .before .before .before .before .before .before .before in
     filling-own (now (S .args .edges)) (S .pre .0) (now (S .args .words)) (length (now (S .args .words))) (S .args .pair .entry) _ (now (S .args .steps)) _ (S .pre .1 .1 .0 .1) refl (S .pre .1 .1 .1)

@@ -26,47 +26,36 @@ Inv-loop edges looks₀ tested₀ e₀ looks tested e = (e ≤ length edges) × 
 abbrev μ-loop : tie.MeasureT-loop
 μ-loop edges looks₀ tested₀ e₀ looks tested e = length edges - e
 
--- src/filling.rt:98:5
 loop-holds : tie.Need-loop-holds Inv-loop μ-loop
 loop-holds c = (omega arith, λ e l. absurd (omega arith), λ e l. absurd (omega arith))
 
--- src/filling.rt:99:17
 mul-p : tie.Need-mul-p Inv-loop μ-loop
 mul-p c = search needs
 
--- src/filling.rt:99:17
 shared-slice-read-p : tie.Need-shared-slice-read-p Inv-loop μ-loop
 shared-slice-read-p c = search needs
 
--- src/filling.rt:100:42
 cast-group-of : tie.Need-cast-group-of Inv-loop μ-loop
 cast-group-of c = search needs
 
--- src/filling.rt:100:33
 group-of-requires : tie.Need-group-of-requires Inv-loop μ-loop
 group-of-requires c κs = search needs
 
--- src/filling.rt:100:25
 one-bit-requires : tie.Need-one-bit-requires Inv-loop μ-loop
 one-bit-requires c κs = search needs
 
--- src/filling.rt:101:36
 cast-node-bit : tie.Need-cast-node-bit Inv-loop μ-loop
 cast-node-bit c = let S = c .before .before .before .before .before .before in omega (arith, S .pre .each (c .before .before .before .before .loop .e) (c .before .before .before .loop-test .taken) .test-fits)
 
--- src/filling.rt:101:27
 node-bit-requires : tie.Need-node-bit-requires Inv-loop μ-loop
 node-bit-requires c κs = let S = c .before .before .before .before .before .before in S .pre .each (c .before .before .before .before .loop .e) (c .before .before .before .loop-test .taken) .test-fits
 
--- src/filling.rt:102:9
 add-e : tie.Need-add-e Inv-loop μ-loop
 add-e c = search needs
 
--- src/filling.rt:98:5
 loop-less : tie.Need-loop-less Inv-loop μ-loop
 loop-less c = search needs
 
--- src/filling.rt:98:5
 loop-again : tie.Need-loop-again Inv-loop μ-loop
 loop-again c = let S = c .before .before .before .before .before .before .before in
     let l = c .before .before .before .before .before .loop in
@@ -80,7 +69,6 @@ loop-again c = let S = c .before .before .before .before .before .before .before
       subst (λ (z : ℕ). Tested E (bitOr (l .tested) z) (l .e + 1)) (sym (c .node-bit .ensures)) (gathered t nodeLimit (l .e) (l .tested) (S .pre .each (l .e) h .test-fits) (l .inv .2)),
     )
 
--- src/filling.rt:91:1
 returns : tie.Need-returns Inv-loop μ-loop
 returns c = let S = c .before .before .before in
     let l = c .before .loop in

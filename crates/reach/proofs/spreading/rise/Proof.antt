@@ -25,26 +25,21 @@ Inv-loop exits looks steps masks₀ n todo₀ j₀ masks todo j =
 abbrev μ-loop : tie.MeasureT-loop
 μ-loop exits looks steps masks₀ n todo₀ j₀ masks todo j = 2 * (length masks * 2 ^ stateLimit - sum masks) + (length masks - j)
 
--- src/spreading.rt:59:5
 loop-holds : tie.Need-loop-holds Inv-loop μ-loop
 loop-holds c = let S = c .before .before in
     (refl, refl, λ i l. omega (arith, c .slice-known .given i), λ k l. absurd (omega arith), rise-start (S .args .exits) (S .args .looks) (now (S .args .steps)) (now (S .args .masks)) (replicate 512 4) (λ i l. getD-replicate 512 i 4 0 (omega (arith, S .pre .1))))
 
--- src/spreading.rt:66:43
 slice-aggregate-turn : tie.Need-slice-aggregate-turn Inv-loop μ-loop
 slice-aggregate-turn c = sym (c .before .before .before .loop .inv .1)
 
--- src/spreading.rt:66:13
 turn-requires : tie.Need-turn-requires Inv-loop μ-loop
 turn-requires c κs = let S = c .before .before .before .before .before .before in
     let l = c .before .before .before .loop in
     (subst (λ (n : ℕ). Placed n (now (S .args .steps))) (sym (l .inv .0)) (S .pre .0), (omega (arith, l .inv .0, c .before .before .loop-test .taken), omega (arith, l .inv .0, l .inv .1, S .pre .1)))
 
--- src/spreading.rt:67:9
 next-entry-requires : tie.Need-next-entry-requires Inv-loop μ-loop
 next-entry-requires c κs = search needs
 
--- src/spreading.rt:59:5
 loop-less : tie.Need-loop-less Inv-loop μ-loop
 loop-less c = let S = c .before .before .before .before .before .before .before .before .before .before .before in
     let l = c .before .before .before .before .before .before .before .before .loop in
@@ -52,7 +47,6 @@ loop-less c = let S = c .before .before .before .before .before .before .before 
     fewer (S .args .exits) (S .args .looks) (now (S .args .steps)) (l .masks) (l .todo) _ _ (l .j) (c .next-entry .result) (t .result) (t .ensures) (c .next-entry .ensures)
     (omega (arith, l .inv .0, c .before .before .before .before .before .before .before .loop-test .taken)) (t .ensures .fits (l .inv .2))
 
--- src/spreading.rt:59:5
 loop-again : tie.Need-loop-again Inv-loop μ-loop
 loop-again c = let S = c .before .before .before .before .before .before .before .before .before .before .before in
     let l = c .before .before .before .before .before .before .before .before .loop in
@@ -64,11 +58,9 @@ loop-again c = let S = c .before .before .before .before .before .before .before
       λ E words seeds f told F K. t .ensures .moves E words seeds f told F (l .inv .4 E words seeds f told F K),
     )
 
--- src/spreading.rt:49:1
 same-length : tie.Need-same-length Inv-loop μ-loop
 same-length c = c .before .loop .inv .0
 
--- src/spreading.rt:49:1
 returns : tie.Need-returns Inv-loop μ-loop
 returns c = let S = c .before .before .before .before in
     let l = c .before .loop in (

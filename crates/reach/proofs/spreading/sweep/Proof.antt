@@ -21,25 +21,20 @@ Inv-loop exits looks steps masks₀ i₀ masks i = (i ≤ length masks) × (leng
 abbrev μ-loop : tie.MeasureT-loop
 μ-loop exits looks steps masks₀ i₀ masks i = i
 
--- src/spreading.rt:36:5
 loop-holds : tie.Need-loop-holds Inv-loop μ-loop
 loop-holds c = (omega arith, refl, sweep-start _ _ _ _)
 
--- src/spreading.rt:37:9
 sub-i : tie.Need-sub-i Inv-loop μ-loop
 sub-i c = search needs
 
--- src/spreading.rt:44:9
 visit-entry-requires : tie.Need-visit-entry-requires Inv-loop μ-loop
 visit-entry-requires c κs = let S = c .before .before .before .before .before in
     let l = c .before .before .loop in
     (subst (λ (n : ℕ). Placed n (now (S .args .steps))) (sym (l .inv .1)) (S .pre), omega (arith, l .inv .0, c .before .loop-test .taken))
 
--- src/spreading.rt:36:5
 loop-less : tie.Need-loop-less Inv-loop μ-loop
 loop-less c = search needs
 
--- src/spreading.rt:36:5
 loop-again : tie.Need-loop-again Inv-loop μ-loop
 loop-again c = let S = c .before .before .before .before .before .before .before .before in
     let l = c .before .before .before .before .before .loop in
@@ -53,11 +48,9 @@ loop-again c = let S = c .before .before .before .before .before .before .before
           (subst (λ (z : ℕ). Moves (S .args .exits) (S .args .looks) (now (S .args .steps)) (now (S .args .masks)) (l .masks) allDue (sweptTo z)) (omega (arith, h)) (l .inv .2)),
     )
 
--- src/spreading.rt:30:1
 same-length : tie.Need-same-length Inv-loop μ-loop
 same-length c = c .before .loop .inv .1
 
--- src/spreading.rt:30:1
 returns : tie.Need-returns Inv-loop μ-loop
 returns c = let S = c .before .before .before .before in
     let l = c .before .loop in

@@ -17,60 +17,46 @@ use Rattle.reach.proofs.spreading.touch.Reads as touch-reads
 use Rattle.reach.proofs.spreading.visit_entry.Reads as visit-entry-reads
 use Rattle.reach.proofs.steps.has.Reads as has-reads
 
--- src/spreading.rt:89:15
 mul-due : tie.Need-mul-due
 mul-due c = search needs
 
--- src/spreading.rt:89:15
 slice-read-due : tie.Need-slice-read-due
 slice-read-due c = search needs
 
--- src/spreading.rt:91:9
 returns : tie.Need-returns
 returns c = let S = c .before .before .before .before .before in turned-skip (S .args .v .exits) (S .args .v .looks) (now (S .args .steps)) (now (S .args .masks)) (now (S .args .todo)) (S .args .v .entry) (c .if1 .taken)
 
--- src/spreading.rt:93:5
 mul-todo : tie.Need-mul-todo
 mul-todo c = search needs
 
--- src/spreading.rt:93:5
 slice-write-todo : tie.Need-slice-write-todo
 slice-write-todo c = search needs
 
--- src/spreading.rt:100:9
 visit-entry-requires : tie.Need-visit-entry-requires
 visit-entry-requires c κs = search needs
 
--- src/spreading.rt:101:9
 same-length : tie.Need-same-length
 same-length c = search needs
 
--- src/spreading.rt:101:9
 same-length-2 : tie.Need-same-length-2
 same-length-2 c = search needs
 
--- src/spreading.rt:101:9
 returns-2 : tie.Need-returns-2
 returns-2 c = let S = c .before .before .before .before .before .before .before .before .before .before in
     turned-same _ (now (S .args .steps)) (now (S .args .masks)) (now (S .args .todo)) _ _ (c .before .before .before .visit-entry .ensures) refl (S .pre .1 .0) (S .pre .1 .1) (not-true _ (c .if2 .taken))
 
--- src/spreading.rt:103:9
 has-requires : tie.Need-has-requires
 has-requires c κs = search needs
 
--- src/spreading.rt:104:5
 touch-requires : tie.Need-touch-requires
 touch-requires c κs = let S = c .before .before .before .before .before .before .before .before .before .before .before .before in omega (arith, length-set (now (S .args .todo)) (S .args .v .entry) 0, S .pre .1)
 
--- src/spreading.rt:83:1
 same-length-3 : tie.Need-same-length-3
 same-length-3 c = search needs
 
--- src/spreading.rt:83:1
 same-length-4 : tie.Need-same-length-4
 same-length-4 c = let S = c .before .before .before .before .before .before .before .before .before .before .before .before .before .before .before in c .before .before .touch .ensures .same ∙ length-set (now (S .args .todo)) (S .args .v .entry) 0
 
--- src/spreading.rt:83:1
 returns-3 : tie.Need-returns-3
 returns-3 c = let S = c .before .before .before .before .before .before .before .before .before .before .before .before .before .before .before in
     let ahead = c .before .before .before .before .has .ensures in

@@ -14,51 +14,39 @@ use Rattle.reach.proofs.closing.close.Reads as close-reads
 use Rattle.reach.proofs.spreading.ahead_of.Reads as ahead-of-reads
 use Rattle.reach.proofs.spreading.behind_of.Reads as behind-of-reads
 
--- src/spreading.rt:116:16
 ahead-of-requires : tie.Need-ahead-of-requires
 ahead-of-requires c κs = search needs
 
--- src/spreading.rt:117:17
 behind-of-requires : tie.Need-behind-of-requires
 behind-of-requires c κs = search needs
 
--- src/spreading.rt:119:15
 mul-old : tie.Need-mul-old
 mul-old c = search needs
 
--- src/spreading.rt:119:15
 slice-read-old : tie.Need-slice-read-old
 slice-read-old c = search needs
 
--- src/spreading.rt:120:28
 mul-close : tie.Need-mul-close
 mul-close c = search needs
 
--- src/spreading.rt:120:28
 shared-slice-read-close : tie.Need-shared-slice-read-close
 shared-slice-read-close c = let S = c .before .before .before .before .before .before .before .before in omega (arith, S .pre .0 .room, S .pre .1)
 
--- src/spreading.rt:120:28
 cast-close : tie.Need-cast-close
 cast-close c = omega (arith, c .shared-slice-known2 .given (c .before .before .before .before .before .before .before .before .args .v .entry))
 
--- src/spreading.rt:120:9
 close-requires : tie.Need-close-requires
 close-requires c κs = let S = c .before .before .before .before .before .before .before .before in S .pre .0 .each (S .args .v .entry) (S .pre .1)
 
--- src/spreading.rt:121:5
 mul-masks : tie.Need-mul-masks
 mul-masks c = search needs
 
--- src/spreading.rt:121:5
 slice-write-masks : tie.Need-slice-write-masks
 slice-write-masks c = search needs
 
--- src/spreading.rt:109:1
 same-length : tie.Need-same-length
 same-length c = search needs
 
--- src/spreading.rt:109:1
 returns : tie.Need-returns
 returns c = let S = c .before .before .before .before .before .before .before .before .before in
     let M = now (S .args .masks) in

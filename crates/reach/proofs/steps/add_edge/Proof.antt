@@ -17,55 +17,42 @@ use Rattle.reach.proofs.steps.column_of.Reads as column-of-reads
 use Rattle.reach.proofs.steps.one_bit.Reads as one-bit-reads
 use Rattle.reach.proofs.verdict.Reads as verdict-reads
 
--- src/steps.rt:101:21
 column-of-requires : tie.Need-column-of-requires
 column-of-requires c κs = search needs
 
--- src/steps.rt:101:13
 add-c : tie.Need-add-c
 add-c c = search needs
 
--- src/steps.rt:102:24
 cast-one-bit : tie.Need-cast-one-bit
 cast-one-bit c = search needs
 
--- src/steps.rt:102:9
 one-bit-requires : tie.Need-one-bit-requires
 one-bit-requires c κs = search needs
 
--- src/steps.rt:103:33
 cast-t12 : tie.Need-cast-t12
 cast-t12 c = search needs
 
--- src/steps.rt:103:9
 verdict-requires : tie.Need-verdict-requires
 verdict-requires c κs = search needs
 
--- src/steps.rt:104:15
 mul-old : tie.Need-mul-old
 mul-old c = search needs
 
--- src/steps.rt:104:15
 slice-read-old : tie.Need-slice-read-old
 slice-read-old c = search needs
 
--- src/steps.rt:105:16
 chosen-requires : tie.Need-chosen-requires
 chosen-requires c κs = search needs
 
--- src/steps.rt:105:5
 mul-steps : tie.Need-mul-steps
 mul-steps c = search needs
 
--- src/steps.rt:105:5
 slice-write-steps : tie.Need-slice-write-steps
 slice-write-steps c = search needs
 
--- src/steps.rt:95:1
 same-length : tie.Need-same-length
 same-length c = search needs
 
--- src/steps.rt:95:1
 returns : tie.Need-returns
 returns c = let a = c .before .before .before .before .before .before .args in
     let C = now (a .steps) in

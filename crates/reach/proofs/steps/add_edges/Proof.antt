@@ -21,33 +21,26 @@ Inv-loop edges word place steps₀ e₀ steps e = (e ≤ length edges) × Apart 
 abbrev μ-loop : tie.MeasureT-loop
 μ-loop edges word place steps₀ e₀ steps e = length edges - e
 
--- src/steps.rt:88:5
 loop-holds : tie.Need-loop-holds Inv-loop μ-loop
 loop-holds c = let S = c .before .before in (omega arith, apart-none _ _ _, held-none _ _ _ _ (S .pre .1 .1))
 
--- src/steps.rt:89:18
 mul-add-edge : tie.Need-mul-add-edge Inv-loop μ-loop
 mul-add-edge c = search needs
 
--- src/steps.rt:89:18
 shared-slice-read-add-edge : tie.Need-shared-slice-read-add-edge Inv-loop μ-loop
 shared-slice-read-add-edge c = search needs
 
--- src/steps.rt:89:9
 add-edge-requires : tie.Need-add-edge-requires Inv-loop μ-loop
 add-edge-requires c κs = let S = c .before .before .before .before .before .before in
     let l = c .before .before .before .loop in
     (S .pre .0 .each (l .e) (c .before .before .loop-test .taken), omega (arith, l .inv .1 .same, S .pre .1 .0))
 
--- src/steps.rt:90:9
 add-e : tie.Need-add-e Inv-loop μ-loop
 add-e c = search needs
 
--- src/steps.rt:88:5
 loop-less : tie.Need-loop-less Inv-loop μ-loop
 loop-less c = search needs
 
--- src/steps.rt:88:5
 loop-again : tie.Need-loop-again Inv-loop μ-loop
 loop-again c = let S = c .before .before .before .before .before .before .before .before .before in
     let I = c .before .before .before .before .before in
@@ -62,11 +55,9 @@ loop-again c = let S = c .before .before .before .before .before .before .before
       held-next E (S .pre .0) (S .args .word) (l .e) h (l .steps) p (omega (arith, l .inv .1 .same, S .pre .1 .0)) (l .inv .2) _ r,
     )
 
--- src/steps.rt:80:1
 same-length : tie.Need-same-length Inv-loop μ-loop
 same-length c = search needs
 
--- src/steps.rt:80:1
 returns : tie.Need-returns Inv-loop μ-loop
 returns c = let S = c .before .before .before .before in
     let l = c .before .loop in

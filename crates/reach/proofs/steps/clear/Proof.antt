@@ -21,31 +21,24 @@ Inv-loop place steps₀ c₀ steps c = (c ≤ 48) × Apart place (place + 48) st
 abbrev μ-loop : tie.MeasureT-loop
 μ-loop place steps₀ c₀ steps c = 48 - c
 
--- src/steps.rt:73:5
 loop-holds : tie.Need-loop-holds Inv-loop μ-loop
 loop-holds c = (omega arith, apart-none _ _ _, λ d l. absurd (omega arith))
 
--- src/steps.rt:74:15
 add-steps : tie.Need-add-steps Inv-loop μ-loop
 add-steps c = search needs
 
--- src/steps.rt:74:9
 mul-steps : tie.Need-mul-steps Inv-loop μ-loop
 mul-steps c = search needs
 
--- src/steps.rt:74:9
 slice-write-steps : tie.Need-slice-write-steps Inv-loop μ-loop
 slice-write-steps c = search needs
 
--- src/steps.rt:75:9
 add-c : tie.Need-add-c Inv-loop μ-loop
 add-c c = search needs
 
--- src/steps.rt:73:5
 loop-less : tie.Need-loop-less Inv-loop μ-loop
 loop-less c = search needs
 
--- src/steps.rt:73:5
 loop-again : tie.Need-loop-again Inv-loop μ-loop
 loop-again c = let l = c .before .loop in
     let p = c .before .before .args .place in (
@@ -54,11 +47,9 @@ loop-again c = let l = c .before .loop in
       stored (λ d. p + d) (l .steps) (l .c) 0 (λ d x. x ≡ 0) (λ d e. omega arith) (omega (arith, l .inv .1 .same, c .before .before .pre, c .loop-test .taken)) refl (l .inv .2),
     )
 
--- src/steps.rt:67:1
 same-length : tie.Need-same-length Inv-loop μ-loop
 same-length c = search needs
 
--- src/steps.rt:67:1
 returns : tie.Need-returns Inv-loop μ-loop
 returns c = let l = c .before .loop in (l .inv .1, λ d h. l .inv .2 d (omega (arith, c .loop-test .left)))
 

@@ -19,34 +19,27 @@ Inv-loop place steps₀ k₀ steps k = (k ≤ stateLimit) × Joined steps₀ pla
 abbrev μ-loop : tie.MeasureT-loop
 μ-loop place steps₀ k₀ steps k = stateLimit - k
 
--- src/steps.rt:136:5
 loop-holds : tie.Need-loop-holds Inv-loop μ-loop
 loop-holds c = (omega arith, joined-none _ _)
 
--- src/steps.rt:137:9
 pivot-requires : tie.Need-pivot-requires Inv-loop μ-loop
 pivot-requires c κs = let l = c .before .before .loop in (omega (arith, c .before .loop-test .taken), omega (arith, l .inv .1 .apart .same, c .before .before .before .before .pre))
 
--- src/steps.rt:138:9
 add-k : tie.Need-add-k Inv-loop μ-loop
 add-k c = search needs
 
--- src/steps.rt:136:5
 loop-less : tie.Need-loop-less Inv-loop μ-loop
 loop-less c = search needs
 
--- src/steps.rt:136:5
 loop-again : tie.Need-loop-again Inv-loop μ-loop
 loop-again c = let S = c .before .before .before .before .before .before .before in
     let l = c .before .before .before .before .before .loop in
     let h : l .k < stateLimit = omega (arith, c .before .before .before .before .loop-test .taken) in
     (omega (arith, h), joined-next (now (S .args .steps)) (S .args .place) (l .k) h (l .steps) _ (l .inv .1) (c .before .before .pivot .ensures))
 
--- src/steps.rt:131:1
 same-length : tie.Need-same-length Inv-loop μ-loop
 same-length c = c .before .loop .inv .1 .apart .same
 
--- src/steps.rt:131:1
 returns : tie.Need-returns Inv-loop μ-loop
 returns c = let S = c .before .before .before in
     let l = c .before .loop in

@@ -13,23 +13,18 @@ use Rattle.reach.proofs.steps.add_edges.Reads as add-edges-reads
 use Rattle.reach.proofs.steps.clear.Reads as clear-reads
 use Rattle.reach.proofs.steps.join.Reads as join-reads
 
--- src/steps.rt:61:5
 clear-requires : tie.Need-clear-requires
 clear-requires c κs = search needs
 
--- src/steps.rt:62:5
 add-edges-requires : tie.Need-add-edges-requires
 add-edges-requires c κs = search needs
 
--- src/steps.rt:63:5
 join-requires : tie.Need-join-requires
 join-requires c κs = search needs
 
--- src/steps.rt:55:1
 same-length : tie.Need-same-length
 same-length c = search needs
 
--- src/steps.rt:55:1
 returns : tie.Need-returns
 returns c = let S = c .before .before .before .before .before .before .before .before .before .before .before .before .before .before in
     let J = c .before .before .join .ensures in

@@ -17,7 +17,7 @@ use Rattle.reach.proofs.steps.pivot.Tie as tie
 use Rattle.reach.proofs.steps.pivot.Reads as reads
 use Rattle.reach.proofs.steps.pivot.Lts as lts
 use Rattle.reach.proofs.steps.has.Reads as has-reads
-use Rattle.reach.proofs.steps.joined.Reads as joined-reads
+use Rattle.reach.proofs.steps.chosen.Reads as chosen-reads
 
 abbrev Inv-loop : tie.InvT-loop
 Inv-loop k place steps₀ into u₀ steps u = (u ≤ stateLimit) × Pivoted steps₀ place k u steps × (into ≡ at steps₀ (place + k))
@@ -25,67 +25,51 @@ Inv-loop k place steps₀ into u₀ steps u = (u ≤ stateLimit) × Pivoted step
 abbrev μ-loop : tie.MeasureT-loop
 μ-loop k place steps₀ into u₀ steps u = stateLimit - u
 
--- src/steps.rt:147:22
 add-into : tie.Need-add-into Inv-loop μ-loop
 add-into c = search needs
 
--- src/steps.rt:147:16
 mul-into : tie.Need-mul-into Inv-loop μ-loop
 mul-into c = search needs
 
--- src/steps.rt:147:16
 slice-read-into : tie.Need-slice-read-into Inv-loop μ-loop
 slice-read-into c = search needs
 
--- src/steps.rt:149:9
 returns : tie.Need-returns Inv-loop μ-loop
 returns c = let a = c .before .before .before .args in pivoted-empty (now (a .steps)) (a .place) (a .k) stateLimit (c .if1 .taken)
 
--- src/steps.rt:152:5
 loop-holds : tie.Need-loop-holds Inv-loop μ-loop
 loop-holds c = (omega arith, pivoted-none _ _ _, refl)
 
--- src/steps.rt:153:23
 add-x : tie.Need-add-x Inv-loop μ-loop
 add-x c = search needs
 
--- src/steps.rt:153:17
 mul-x : tie.Need-mul-x Inv-loop μ-loop
 mul-x c = search needs
 
--- src/steps.rt:153:17
 slice-read-x : tie.Need-slice-read-x Inv-loop μ-loop
 slice-read-x c = search needs
 
--- src/steps.rt:154:44
 has-requires : tie.Need-has-requires Inv-loop μ-loop
 has-requires c κs = search needs
 
--- src/steps.rt:154:28
-joined-requires : tie.Need-joined-requires Inv-loop μ-loop
-joined-requires c κs = search needs
+chosen-requires : tie.Need-chosen-requires Inv-loop μ-loop
+chosen-requires c κs = search needs
 
--- src/steps.rt:154:15
 add-steps : tie.Need-add-steps Inv-loop μ-loop
 add-steps c = search needs
 
--- src/steps.rt:154:9
 mul-steps : tie.Need-mul-steps Inv-loop μ-loop
 mul-steps c = search needs
 
--- src/steps.rt:154:9
 slice-write-steps : tie.Need-slice-write-steps Inv-loop μ-loop
 slice-write-steps c = search needs
 
--- src/steps.rt:155:9
 add-u : tie.Need-add-u Inv-loop μ-loop
 add-u c = search needs
 
--- src/steps.rt:152:5
 loop-less : tie.Need-loop-less Inv-loop μ-loop
 loop-less c = search needs
 
--- src/steps.rt:152:5
 loop-again : tie.Need-loop-again Inv-loop μ-loop
 loop-again c = let S = c .before .before .before .before .before .before .before .before in
     let l = c .before .before .before .before .loop in
@@ -95,17 +79,15 @@ loop-again c = let S = c .before .before .before .before .before .before .before
     let rest = l .inv .1 .rest (l .u) (omega arith) in
     let h = c .before .before .before .loop-test .taken in (
       omega (arith, h),
-      pivoted-next C p k (l .u) (l .steps) (c .joined .result) h (S .pre .1) (l .inv .1)
-          (c .joined .ensures ∙ ap (λ (b : Bool). pick b (bitOr (at (l .steps) (p + l .u)) (at C (p + k))) (at (l .steps) (p + l .u))) (c .before .has .ensures)
+      pivoted-next C p k (l .u) (l .steps) (c .chosen .result) h (S .pre .1) (l .inv .1)
+          (c .chosen .ensures ∙ ap (λ (b : Bool). pick b (bitOr (at (l .steps) (p + l .u)) (at C (p + k))) (at (l .steps) (p + l .u))) (c .before .has .ensures)
           ∙ ap (λ (x : ℕ). pick (bit x k) (bitOr x (at C (p + k))) x) rest),
       refl,
     )
 
--- src/steps.rt:143:1
 same-length : tie.Need-same-length Inv-loop μ-loop
 same-length c = search needs
 
--- src/steps.rt:143:1
 returns-2 : tie.Need-returns-2 Inv-loop μ-loop
 returns-2 c = let a = c .before .before .before .before .before .args in
     let l = c .before .loop in
@@ -126,7 +108,7 @@ pivot-spec =
     mul-x
     slice-read-x
     has-requires
-    joined-requires
+    chosen-requires
     add-steps
     mul-steps
     slice-write-steps

@@ -24,39 +24,30 @@ Inv-loop count steps place mask found₀ t₀ found t = (t ≤ count) × Pulled 
 abbrev μ-loop : tie.MeasureT-loop
 μ-loop count steps place mask found₀ t₀ found t = count - t
 
--- src/steps.rt:20:9
 returns : tie.Need-returns Inv-loop μ-loop
 returns c = let a = c .before .before .args in pulled-empty (now (a .steps)) (a .place) (a .mask) (a .count) (c .if1 .taken)
 
--- src/steps.rt:24:5
 loop-holds : tie.Need-loop-holds Inv-loop μ-loop
 loop-holds c = let a = c .before .before .args in (omega arith, pulled-none (now (a .steps)) (a .place) (a .mask))
 
--- src/steps.rt:25:51
 cast-with-column : tie.Need-cast-with-column Inv-loop μ-loop
 cast-with-column c = search needs
 
--- src/steps.rt:25:43
 add-with-column : tie.Need-add-with-column Inv-loop μ-loop
 add-with-column c = search needs
 
--- src/steps.rt:25:63
 has-requires : tie.Need-has-requires Inv-loop μ-loop
 has-requires c κs = search needs
 
--- src/steps.rt:25:9
 with-column-requires : tie.Need-with-column-requires Inv-loop μ-loop
 with-column-requires c κs = search needs
 
--- src/steps.rt:26:9
 add-t : tie.Need-add-t Inv-loop μ-loop
 add-t c = search needs
 
--- src/steps.rt:24:5
 loop-less : tie.Need-loop-less Inv-loop μ-loop
 loop-less c = search needs
 
--- src/steps.rt:24:5
 loop-again : tie.Need-loop-again Inv-loop μ-loop
 loop-again c = let a = c .before .before .before .before .before .before .args in
     let l = c .before .before .before .loop in
@@ -67,7 +58,6 @@ loop-again c = let a = c .before .before .before .before .before .before .args i
           (c .with-column .ensures ∙ ap (λ (b : Bool). pick b (bitOr (l .found) x) (l .found)) (c .before .has .ensures)),
     )
 
--- src/steps.rt:15:1
 returns-2 : tie.Need-returns-2 Inv-loop μ-loop
 returns-2 c = let a = c .before .before .before .before .args in
     let l = c .before .loop in

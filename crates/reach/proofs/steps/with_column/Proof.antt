@@ -6,19 +6,15 @@ use Rattle.reach.proofs.steps.with_column.Tie as tie
 use Rattle.reach.proofs.steps.with_column.Reads as reads
 use Rattle.reach.proofs.steps.with_column.Lts as lts
 
--- src/steps.rt:37:24
 mul-result : tie.Need-mul-result
 mul-result c = search needs
 
--- src/steps.rt:37:24
 shared-slice-read-result : tie.Need-shared-slice-read-result
 shared-slice-read-result c = search needs
 
--- src/steps.rt:37:9
 returns : tie.Need-returns
 returns c = rw (c .before .if1 .taken) refl
 
--- src/steps.rt:32:1
 returns-2 : tie.Need-returns-2
 returns-2 c = search needs
 
