@@ -46,14 +46,14 @@ uint64_t rozsvelen_read_sheet(const uint8_t *text, size_t text_len, uint16_t *ta
 uint64_t rozsvelen_read_log(const uint8_t *text, size_t text_len, uint32_t *words, size_t words_len);
 
 /* Judges a whole log: one word per entry, bit k for node k, in the first places of verdicts; counts the entries at which the rule,
- * the last node, holds. Questions 31, 32, 33. Stack: 16 KB. */
+ * the last node, holds. Questions 31, 32, 33. Stack: 72 KB. */
 uint64_t rozsvelen_judge(const uint16_t *table, size_t table_len, const uint32_t *log, size_t log_len, uint64_t *verdicts, size_t verdicts_len);
 
 /* Judges a list of logs of one sheet. Their words stand one after the other; lengths says how many entries each log has. The verdict words
  * stand likewise in the first places of verdicts, and each log's count of entries at which the rule holds in those of held. Question 31;
  * 32 of each log in turn: it is among the first 65,535, has 1 to ROZSVELEN_ENTRIES entries, and they are among the words; words left over are
  * about the log after the last; 33 of each log in turn: it has room in verdicts and in held. A refusal's line is the log, from 1 (31: 0).
- * A list of no logs and no words is accepted. Stack: 16 KB. */
+ * A list of no logs and no words is accepted. Stack: 72 KB. */
 uint64_t rozsvelen_judge_logs(const uint16_t *table, size_t table_len, const uint32_t *words, size_t words_len, const uint16_t *lengths,
                               size_t lengths_len, uint64_t *verdicts, size_t verdicts_len, uint16_t *held, size_t held_len);
 
@@ -62,17 +62,17 @@ uint64_t rozsvelen_plain_row(const uint16_t *table, size_t table_len, uint16_t *
 
 /* Judges a part of a log, given the row of the entry just outside it, and puts the row for the next part in its place.
  * way: ROZSVELEN_AHEAD, parts come from the last to the first; ROZSVELEN_BACK, from the first to the last.
- * Questions 35 (the row), 43, 31, 34, 32, 33. Stack: 16 KB. */
+ * Questions 35 (the row), 43, 31, 34, 32, 33. Stack: 72 KB. */
 uint64_t rozsvelen_judge_part(const uint16_t *table, size_t table_len, uint32_t way, uint16_t *row, size_t row_len,
                               const uint32_t *words, size_t words_len, uint64_t *verdicts, size_t verdicts_len);
 
 /* The edge numbers of the shortest walk, with the lowest edges, that shows node `node` at entry `entry`, in the first places of edges;
- * counts them. Every number that is no node's or entry's is refused, by 36 or 37. Questions 31, 32, 36 to 40. Stack: 64 KB. */
+ * counts them. Every number that is no node's or entry's is refused, by 36 or 37. Questions 31, 32, 36 to 40. Stack: 112 KB. */
 uint64_t rozsvelen_walk(const uint16_t *table, size_t table_len, const uint32_t *log, size_t log_len, uint32_t node, uint32_t entry,
                         uint16_t *edges, size_t edges_len);
 
 /* The page of a sheet and a log as text, in the first places of page; counts its bytes. A refusal of the sheet or the log is a page too:
- * its one line. Question 44, which a buffer of ROZSVELEN_PAGE bytes always gets a yes from. Stack: 128 KB. */
+ * its one line. Question 44, which a buffer of ROZSVELEN_PAGE bytes always gets a yes from. Stack: 176 KB. */
 uint64_t rozsvelen_page(const uint8_t *rules, size_t rules_len, const uint8_t *steps, size_t steps_len, uint8_t *page, size_t page_len);
 
 #ifdef __cplusplus

@@ -7,7 +7,7 @@ use mathlib.Core.Logic.{_⊎_, inl, inr}
 use mathlib.Core.Bool.{Bool, true, false}
 use mathlib.Core.List.{List, _++_}
 use lib.Dec.{eqb, ltb}
-use lib.ListN.{getD, length, set, length-set, take, drop, replicate}
+use lib.ListN.{getD, length, set, length-set, take, drop, replicate, length-append, length-take}
 use lib.Seq.{ext-getD, getD-set-same, getD-set-other, getD-take, length-take-le, drop-cons, set-at, append-snoc, take-suc, take-at, length-front}
 use borrow.Author.Tests.{eqb-true, eqb-false, ltb-true, ltb-false}
 use Rattle.aldlf.specs.Constants.{nodeLimit, entryLimit}
@@ -71,6 +71,12 @@ zeros-at (suc n) (suc j) = zeros-at n j
 -- the first places of l after they were lent and came back as w
 pub lent-back : (n : ℕ) (w l : List ℕ) → length w ≡ n → take n (w ++ drop n l) ≡ w
 lent-back n w l e = take-at w (drop n l) n e
+
+pub lent-room : (n : ℕ) (w l : List ℕ) → length w ≡ n → n ≤ length (w ++ drop n l)
+lent-room n w l e = omega (arith, e, length-append w (drop n l))
+
+pub take-fits : (k : ℕ) (l : List ℕ) (m : ℕ) → k ≤ m → length (take k l) ≤ m
+take-fits k l m h = omega (arith, length-take k l)
 
 pub lent-put : (n : ℕ) (w l buffer : List ℕ) → length w ≡ n → take n (w ++ drop n l) ++ drop (length (take n (w ++ drop n l))) buffer ≡ w ++ drop n buffer
 lent-put n w l buffer e = ap (λ (l : List ℕ). l ++ drop (length l) buffer) (lent-back n w l e) ∙ ap (λ (k : ℕ). w ++ drop k buffer) e

@@ -1,13 +1,12 @@
 -- `judge_in` meets its contract: the scratch's first places, as long as the log, and the words that they end with are put in place. Assumes nothing.
-use Prim.Native.Nat.{_*_}
-use Rattle.judge.proofs.Adds.{lent-back, lent-put}
+use Prim.Native.Nat.{_*_, _≤_}
+use Rattle.judge.proofs.Adds.{lent-put, lent-room, take-fits}
 use denote.Ref.{now}
-use lib.ListN.{drop, length, take}
+use lib.ListN.{drop, length}
 use lib.Seq.{getD-take, length-take-le}
-use mathlib.Core.List.{List, _++_}
-use mathlib.Core.Path.{_∙_, _≡_, ap, sym}
+use mathlib.Core.List.{_++_}
+use mathlib.Core.Path.{_∙_, _≡_, sym}
 use native.Mathlib.Omega.{arith}
-use Prim.Native.Nat.{ℕ}
 use borrow.Author.Needs.{needs}
 use Rattle.judge.proofs.core.judge_in.Statement.{statement}
 use Rattle.judge.proofs.core.judge_in.Tie as tie
@@ -55,18 +54,17 @@ judge-nodes-requires c κs = let S = c .before .before .before .before .before .
 long : (c : tie.After-judge-nodes) → length (c .judge-nodes .last .1 .1 .1 .0) ≡ length (now (c .before .before .before .before .before .before .before .before .before .before .args .log))
 long c = let S = c .before .before .before .before .before .before .before .before .before .before in c .judge-nodes .kept .1 .1 .1 .0 ∙ length-take-le (length (now (S .args .log))) _ (S .pre .1 .1 .1 .0 .0)
 
-cut : (c : tie.After-judge-nodes) → let S = c .before .before .before .before .before .before .before .before .before .before in
-    length (take (length (now (S .args .log))) (c .judge-nodes .last .1 .1 .1 .0 ++ drop (length (now (S .args .log))) (now (S .args .words)))) ≡ length (now (S .args .log))
-cut c = let S = c .before .before .before .before .before .before .before .before .before .before in ap (λ (l : List ℕ). length l) (lent-back _ (c .judge-nodes .last .1 .1 .1 .0) (now (S .args .words)) (long c)) ∙ long c
+room : (c : tie.After-judge-nodes) → let S = c .before .before .before .before .before .before .before .before .before .before in length (now (S .args .log)) ≤ length (c .judge-nodes .last .1 .1 .1 .0 ++ drop (length (now (S .args .log))) (now (S .args .words)))
+room c = let S = c .before .before .before .before .before .before .before .before .before .before in lent-room _ (c .judge-nodes .last .1 .1 .1 .0) (now (S .args .words)) (long c)
 
 slice-reshare-prefix-put-words : tie.Need-slice-reshare-prefix-put-words
 slice-reshare-prefix-put-words c = search needs
 
 slice-aggregate-put-words : tie.Need-slice-aggregate-put-words
-slice-aggregate-put-words c = sym (cut (c .before .before .before .before .before .before .before))
+slice-aggregate-put-words c = sym (length-take-le _ _ (omega (arith, room (c .before .before .before .before .before .before .before))))
 
 put-words-requires : tie.Need-put-words-requires
-put-words-requires c κs = let S = c .before .before .before .before .before .before .before .before .before .before .before .before .before .before .before .before .before .before in omega (arith, cut (c .before .before .before .before .before .before .before .before), S .pre .1 .1 .0)
+put-words-requires c κs = let h = c .before .before .before .before .before .before .before .before .before .before .before .before .before .before .before .before .before .before .pre .1 .1 .0 .0 in search (needs, take-fits)
 
 same-length : tie.Need-same-length
 same-length c = search needs
