@@ -75,6 +75,9 @@ lent-back n w l e = take-at w (drop n l) n e
 pub lent-room : (n : ℕ) (w l : List ℕ) → length w ≡ n → n ≤ length (w ++ drop n l)
 lent-room n w l e = omega (arith, e, length-append w (drop n l))
 
+pub take-all : (k : ℕ) (l : List ℕ) → k ≤ length l → k ≡ length (take k l)
+take-all k l h = sym (length-take-le k l h)
+
 pub take-fits : (k : ℕ) (l : List ℕ) (m : ℕ) → k ≤ m → length (take k l) ≤ m
 take-fits k l m h = omega (arith, length-take k l)
 

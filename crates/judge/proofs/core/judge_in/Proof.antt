@@ -1,6 +1,6 @@
 -- `judge_in` meets its contract: the scratch's first places, as long as the log, and the words that they end with are put in place. Assumes nothing.
 use Prim.Native.Nat.{_*_, _≤_}
-use Rattle.judge.proofs.Adds.{lent-put, lent-room, take-fits}
+use Rattle.judge.proofs.Adds.{lent-put, lent-room, take-all, take-fits}
 use denote.Ref.{now}
 use lib.ListN.{drop, length}
 use lib.Seq.{getD-take, length-take-le}
@@ -61,7 +61,7 @@ slice-reshare-prefix-put-words : tie.Need-slice-reshare-prefix-put-words
 slice-reshare-prefix-put-words c = search needs
 
 slice-aggregate-put-words : tie.Need-slice-aggregate-put-words
-slice-aggregate-put-words c = sym (length-take-le _ _ (omega (arith, room (c .before .before .before .before .before .before .before))))
+slice-aggregate-put-words c = let h = room (c .before .before .before .before .before .before .before) in search (needs, take-all)
 
 put-words-requires : tie.Need-put-words-requires
 put-words-requires c κs = let h = c .before .before .before .before .before .before .before .before .before .before .before .before .before .before .before .before .before .before .pre .1 .1 .0 .0 in search (needs, take-fits)
