@@ -121,8 +121,8 @@ fn many_logs_are_asked_31_then_32_then_33() {
     assert_eq!(judge_logs(&table()[1..], &[2], &[0], &mut [], &mut held), refusal(31, 0), "31 comes before 32");
     assert_eq!(judge_logs(&[], &[], &[], &mut [], &mut []), refusal(31, 0), "31 is asked where there is no log");
     assert_eq!(judge_logs(&table(), &[2], &[1, 0], &mut [], &mut held), refusal(32, 2), "32 comes before 33");
-    assert_eq!(judge_logs(&table(), &[2, 0], &[1, 1], &mut verdicts[..1], &mut held), refusal(33, 0));
-    assert_eq!(judge_logs(&table(), &[2, 0], &[1, 1], &mut verdicts, &mut held[..1]), refusal(33, 0));
+    assert_eq!(judge_logs(&table(), &[2, 0], &[1, 1], &mut verdicts[..1], &mut held), refusal(33, 2), "log 2 has no room for its word");
+    assert_eq!(judge_logs(&table(), &[2, 0], &[1, 1], &mut verdicts, &mut held[..1]), refusal(33, 2), "log 2 has no room for its count");
     assert_eq!((verdicts, held), ([9; 3], [7; 2]));
     assert_eq!(judge_logs(&table(), &[2, 0], &[1, 1], &mut verdicts, &mut held), 0);
     assert_eq!((verdicts, held), ([0b111, 0b001, 9], [1, 0]));
