@@ -1,0 +1,67 @@
+// What a table's numbers have at their places: edge e at e, node line k at 256 + k, automaton m at 320 + m, 336 + m and 352 + m, then the counts in use.
+use super::pieces::Head;
+use super::pieces::automaton_in;
+use super::pieces::edge_in;
+use super::pieces::line_in;
+use aldlf::Automaton;
+use aldlf::Edge;
+use aldlf::NodeLine;
+use aldlf::Used;
+ghost use mathlib.Core.Path.{_≡_};
+ghost use Prim.Native.Nat.{_<_};
+ghost use lib.ListN.{length};
+ghost use Rattle.aldlf.specs.Constants.{nodeLimit, automatonLimit, edgeLimit};
+ghost use Rattle.packing.specs.Numbers.{places, lentEdge, lentLine, lentAutomaton, lentUsed};
+
+pub const PLACES: usize = 371;
+
+pub(crate) const LINES: usize = 256;
+
+pub(crate) const HEADS: usize = 320;
+
+pub(crate) const RANGES: usize = 336;
+
+pub(crate) const BEFORE: usize = 352;
+
+pub(crate) const USED: usize = 368;
+
+// Edge e.
+pub fn edge_at(numbers: &[u32], e: u16) -> Edge
+    requires { ⌜ (length (now numbers) ≡ places) × (e < edgeLimit) ⌝ }
+    ensures { λ r. ⌜ r ≡ lentEdge (now (numbers .entry)) e ⌝ }
+{
+    edge_in(numbers[e as usize])
+}
+
+// Node line k.
+pub fn line_at(numbers: &[u32], k: u8) -> NodeLine
+    requires { ⌜ (length (now numbers) ≡ places) × (k < nodeLimit) ⌝ }
+    ensures { λ r. ⌜ r ≡ lentLine (now (numbers .entry)) k ⌝ }
+{
+    line_in(numbers[LINES + k as usize])
+}
+
+// Automaton m.
+pub fn automaton_at(numbers: &[u32], m: u8) -> Automaton
+    requires { ⌜ (length (now numbers) ≡ places) × (m < automatonLimit) ⌝ }
+    ensures { λ r. ⌜ r ≡ lentAutomaton (now (numbers .entry)) m ⌝ }
+{
+    let i = m as usize;
+    automaton_in(Head {
+        states: numbers[HEADS + i],
+        range: numbers[RANGES + i],
+        before: numbers[BEFORE + i],
+    })
+}
+
+// The counts in use.
+pub fn used_in(numbers: &[u32]) -> Used
+    requires { ⌜ length (now numbers) ≡ places ⌝ }
+    ensures { λ r. ⌜ r ≡ lentUsed (now (numbers .entry)) ⌝ }
+{
+    Used {
+        nodes: (numbers[USED] % 256) as u8,
+        automata: (numbers[USED + 1] % 256) as u8,
+        edges: (numbers[USED + 2] % 65536) as u16,
+    }
+}
