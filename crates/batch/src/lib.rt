@@ -4,8 +4,10 @@ mod logs;
 mod questions;
 
 use aldlf::Table;
-use judge::prepared::prepare;
+use judge::prepared::plain_of;
 use logs::judge_each;
+use packing::places::PLACES;
+use packing::writing::pack;
 use questions::asked;
 ghost use mathlib.Core.Path.{_≡_};
 ghost use Rattle.aldlf.specs.Sheet.{sheetOf};
@@ -35,8 +37,9 @@ pub fn judge_logs(
     if a.number != 0 {
         return a;
     }
-    let mut edges = [0u32; aldlf::EDGES];
-    let with = prepare(table, &mut edges);
-    judge_each(with, &edges, words, lengths, verdicts, held);
+    let mut numbers = [0u32; PLACES];
+    pack(table, &mut numbers);
+    let plain = plain_of(&numbers);
+    judge_each(plain, &numbers, words, lengths, verdicts, held);
     a
 }

@@ -8,7 +8,7 @@ use lib.ListN.{getD, length, set, length-set}
 use lib.Seq.{getD-set-same, getD-set-other}
 use Rattle.aldlf.specs.Sheet.{noEdge}
 use Rattle.aldlf.specs.declared.Edge.{Edge}
-use Rattle.reach.specs.Marks.{packedOf}
+use Rattle.packing.specs.Numbers.{packedOf}
 use Rattle.graph.specs.Graph.{at}
 use Rattle.graph.specs.Arcs.{none, unpackedOf, intoOf, outOf, Arc, Chained, Linked}
 use Rattle.graph.specs.Configurations.{EdgeFits}
@@ -18,18 +18,18 @@ use Rattle.graph.proofs.Cases.{same?}
 -- the fields of an arc, one by one
 module _ (from to dir test into out : ℕ) (a : from < 16) (b : to < 16) (d : dir ≤ 2) (n : test < 64) (i : into < 65536) (o : out < 65536) where
   abbrev number : ℕ
-  number = from + 256 * to + 65536 * dir + 16777216 * test + 4294967296 * into + 281474976710656 * out
+  number = from + 256 * dir + 65536 * test + 16777216 * to + 4294967296 * into + 281474976710656 * out
 
   from-is : number % 256 ≡ from
   from-is = omega arith
 
-  to-is : number / 256 % 256 ≡ to
+  to-is : number / 16777216 % 256 ≡ to
   to-is = omega arith
 
-  dir-is : number / 65536 % 256 ≡ dir
+  dir-is : number / 256 % 256 ≡ dir
   dir-is = omega arith
 
-  test-is : number / 16777216 % 256 ≡ test
+  test-is : number / 65536 % 256 ≡ test
   test-is = omega arith
 
   into-is : number / 4294967296 % 65536 ≡ into
@@ -41,11 +41,11 @@ module _ (from to dir test into out : ℕ) (a : from < 16) (b : to < 16) (d : di
   abbrev made : (from dir test to : ℕ) → Edge
   made f r t g = record { from = record { 0 = f }; dir = r; test = record { 0 = t }; to = record { 0 = g } }
 
-  edge-is : made (number % 256) (number / 65536 % 256) (number / 16777216 % 256) (number / 256 % 256) ≡ made from dir test to
+  edge-is : made (number % 256) (number / 256 % 256) (number / 65536 % 256) (number / 16777216 % 256) ≡ made from dir test to
   edge-is =
-      ap (λ (x : ℕ). made x (number / 65536 % 256) (number / 16777216 % 256) (number / 256 % 256)) from-is
-      ∙ ap (λ (x : ℕ). made from x (number / 16777216 % 256) (number / 256 % 256)) dir-is
-      ∙ ap (λ (x : ℕ). made from dir x (number / 256 % 256)) test-is
+      ap (λ (x : ℕ). made x (number / 256 % 256) (number / 65536 % 256) (number / 16777216 % 256)) from-is
+      ∙ ap (λ (x : ℕ). made from x (number / 65536 % 256) (number / 16777216 % 256)) dir-is
+      ∙ ap (λ (x : ℕ). made from dir x (number / 16777216 % 256)) test-is
       ∙ ap (λ (x : ℕ). made from dir test x) to-is
 
 -- what was packed comes out as it went in

@@ -6,12 +6,12 @@ use lib.ListN.{getD, set}
 use Rattle.aldlf.specs.Constants.{stateLimit}
 use Rattle.aldlf.specs.Sheet.{noEdge}
 use Rattle.aldlf.specs.declared.Edge.{Edge}
+use Rattle.packing.specs.Numbers.{edgeIn}
 use Rattle.graph.specs.Graph.{at}
 
--- The edge that is packed into a number.
+-- The edge that is packed into the lowest 32 bits of a number.
 unfoldable pub unpackedOf : ℕ → Edge
-unpackedOf p =
-    record { from = record { 0 = p % 256 }; dir = p / 65536 % 256; test = record { 0 = p / 16777216 % 256 }; to = record { 0 = p / 256 % 256 } }
+unpackedOf p = edgeIn p
 
 -- The next edge into the state that it enters, and the next out of the state that it leaves.
 abbrev pub intoOf : ℕ → ℕ

@@ -5,6 +5,7 @@ use aldlf::Edge;
 use aldlf::Node;
 use aldlf::State;
 use aldlf::Table;
+use packing::pieces::packed_edge;
 ghost use mathlib.Core.Path.{_≡_};
 ghost use Prim.Native.Nat.{ℕ, _+_, _%_, _≤_, _<_};
 ghost use lib.ListN.{length, getD};
@@ -30,9 +31,9 @@ pub fn unpacked(p: u64) -> Edge
 {
     Edge {
         from: State((p % 256) as u8),
-        dir: (p / 65536 % 256) as u8,
-        test: Node((p / 16777216 % 256) as u8),
-        to: State((p / 256 % 256) as u8),
+        dir: (p / 256 % 256) as u8,
+        test: Node((p / 65536 % 256) as u8),
+        to: State((p / 16777216 % 256) as u8),
     }
 }
 
@@ -71,7 +72,7 @@ fn arc(x: Edge, into: u64, out: u64) -> u64
     requires { ⌜ EdgeFits stateLimit x ⌝ }
     ensures { λ r. ⌜ Arc x (into % 65536) (out % 65536) r ⌝ }
 {
-    (reach::packed(x) as u64) + 4294967296 * (into % 65536) + 281474976710656 * (out % 65536)
+    (packed_edge(x) as u64) + 4294967296 * (into % 65536) + 281474976710656 * (out % 65536)
 }
 
 // Put edge e at the head of its two chains.

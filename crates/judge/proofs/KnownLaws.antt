@@ -18,11 +18,12 @@ use Rattle.aldlf.specs.declared.Row.{Row}
 use Rattle.aldlf.specs.declared.Automaton.{Automaton}
 use Rattle.aldlf.specs.declared.NodeLine.{NodeLine}
 use Rattle.aldlf.proofs.Bools.{bool-cases}
-use Rattle.sheet.specs.Facts.{nodeAt, automatonAt, edgeAt, AutomatonFacts}
-use Rattle.reach.specs.Marks.{at, packedOf, EdgesFit}
+use Rattle.sheet.specs.Facts.{nodeAt, automatonAt, AutomatonFacts}
+use Rattle.reach.specs.Marks.{at, EdgesFit}
 use Rattle.judge.specs.declared.nodes.Job.{Job}
 use Rattle.judge.specs.declared.nodes.NodeAnswer.{NodeAnswer}
-use Rattle.judge.specs.Nodes.{modalKind, saysNow, PlainFits, Added, ModalFits, ModalDone, Packed, Known, NodeDone, cutOf}
+use Rattle.judge.specs.Nodes.{modalKind, saysNow, PlainFits, Added, ModalFits, ModalDone, Known, NodeDone, cutOf}
+use Rattle.judge.specs.Prepared.{Lent}
 use Rattle.judge.proofs.Slices.{edges-fit, slice-reached}
 use Rattle.judge.proofs.WordLaws.{plain-of, plain-bits, words-low, added-words, added-count}
 use Rattle.judge.proofs.RowLaws.{inner, row-form, plain-number}
@@ -36,9 +37,9 @@ module _ (edges : List ℕ) (a c : ℕ) (l : a + c ≤ length edges) where
   cut-at : (i : ℕ) → i < c → at (take ((a + c) - a) (drop a edges)) i ≡ at edges (a + i)
   cut-at i h = getD-take ((a + c) - a) (drop a edges) i 0 (omega arith) ∙ getD-drop a edges i 0
 
-module _ (t : Table) (m : ℕ) (f : AutomatonFacts t m) (edges : List ℕ) (P : Packed t (t .used .edges) edges) where
+module _ (t : Table) (m : ℕ) (f : AutomatonFacts t m) (edges : List ℕ) (L : Lent t edges) where
   in-edges : automatonAt t m .first + automatonAt t m .count ≤ length edges
-  in-edges = omega (arith, f .edges≤, P .room)
+  in-edges = omega (arith, f .edges≤, L .facts .edges≤, L .packed .size)
 
   pub size : length (cutOf (automatonAt t m) edges) ≡ automatonAt t m .count
   size = cut-length edges (automatonAt t m .first) (automatonAt t m .count) in-edges
@@ -60,13 +61,13 @@ module _ (t : Table) (row : Row) (j : Job) (log edges words : List ℕ) (K : Kno
   known-low = words-low (sheetOf t) (bitsOf row) log k words (K .words-are)
 
   pub known-few : j .number .0 < nodeLimit
-  known-few = omega (arith, K .in-table, K .facts .nodes≤)
+  known-few = omega (arith, K .in-table, K .lent .facts .nodes≤)
 
   -- A line that is no D or B ----------------------------------------------------------------------------------------------------
 
   pub plain-fits : modalKind (j .line .kind) ≡ false → PlainFits (j .line)
   plain-fits e =
-      let n = K .facts .node k (K .in-table) in
+      let n = K .lent .facts .node k (K .in-table) in
       let few = known-few in
       subst PlainFits (sym (K .line-is))
       (record {
@@ -114,21 +115,21 @@ module _ (t : Table) (row : Row) (j : Job) (log edges words : List ℕ) (K : Kno
     m = nodeAt t (j .number .0) .a
 
     facts : AutomatonFacts t (nodeAt t (j .number .0) .a)
-    facts = automaton-facts t (K .facts) k kind-is
+    facts = automaton-facts t (K .lent .facts) k kind-is
 
     pub asks : Asks j edges
     asks =
         subst (λ (x : Job). Asks x edges) (sym job-is)
         (record {
-          edges-ok = edges-fit t (K .facts .nodes≤) m facts edges (cutOf (automatonAt t m) edges) (K .packed) (size t m facts edges (K .packed)) (at-cut t m facts edges (K .packed));
+          edges-ok = edges-fit t (K .lent .facts .nodes≤) (K .lent .facts .edges≤) m facts edges (cutOf (automatonAt t m) edges) (K .lent .packed) (size t m facts edges (K .lent)) (at-cut t m facts edges (K .lent));
           job-ok =
               record {
                 few-states = facts .states≤;
                 start-fits = omega (arith, facts .start<, facts .states≤);
-                node-fits = omega (arith, modal-facts t (K .facts) k kind-is .node<, known-few);
+                node-fits = omega (arith, modal-facts t (K .lent .facts) k kind-is .node<, known-few);
                 in-table = known-few;
               };
-          room = in-edges t m facts edges (K .packed);
+          room = in-edges t m facts edges (K .lent);
         })
 
     pub modal-done : (after : List ℕ) (r : NodeAnswer) → ModalDone (cutOf (j .automaton) edges) j words after r → NodeDone t row j log after r
@@ -136,16 +137,4 @@ module _ (t : Table) (row : Row) (j : Job) (log edges words : List ℕ) (K : Kno
         let E = cutOf (automatonAt t m) edges in
         subst (λ (x : Job). NodeDone t row x log after r) (sym job-is)
         (node-modal t row (j .way) log k facts kind-is words (K .words-are) E after r (subst (λ (x : Job). ModalDone (cutOf (x .automaton) edges) x words after r) job-is M)
-        (slice-reached t (K .facts .nodes≤) m facts edges E (K .packed) (size t m facts edges (K .packed)) (at-cut t m facts edges (K .packed))))
-
--- Packing -----------------------------------------------------------------------------------------------------------------------
-
-pub packed-none : (t : Table) (edges : List ℕ) → Packed t 0 edges
-packed-none t edges = record { room = omega arith; edge-is = λ e l. absurd (omega arith) }
-
-pub packed-next : (t : Table) (n : ℕ) (edges : List ℕ) (v : ℕ) → Packed t n edges → n < length edges → v ≡ packedOf (edgeAt t n) → Packed t (n + 1) (set edges n v)
-packed-next t n edges v P l e = record { room = omega (arith, length-set edges n v); edge-is = λ i h. go i h (bool-cases (eqb i n)) }
-  where
-    go : (i : ℕ) → i < n + 1 → (eqb i n ≡ true) ⊎ (eqb i n ≡ false) → at (set edges n v) i ≡ packedOf (edgeAt t i)
-    go i h (inl p) = subst (λ (j : ℕ). at (set edges n v) j ≡ packedOf (edgeAt t j)) (sym (eqb-true i n p)) (getD-set-same edges n v 0 l ∙ e)
-    go i h (inr p) = let ne = eqb-false i n p in getD-set-other edges n i v 0 ne ∙ P .edge-is i (omega arith)
+        (slice-reached t (K .lent .facts .nodes≤) (K .lent .facts .edges≤) m facts edges E (K .lent .packed) (size t m facts edges (K .lent)) (at-cut t m facts edges (K .lent))))

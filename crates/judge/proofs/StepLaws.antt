@@ -15,13 +15,14 @@ use Rattle.aldlf.specs.declared.Row.{Row}
 use Rattle.aldlf.specs.declared.Automaton.{Automaton}
 use Rattle.aldlf.specs.declared.NodeLine.{NodeLine}
 use Rattle.aldlf.proofs.Laws.{judge-below}
-use Rattle.sheet.specs.Facts.{nodeAt, automatonAt, edgeAt, TableFacts, AutomatonFacts}
+use Rattle.sheet.specs.Facts.{nodeAt, automatonAt, edgeAt, AutomatonFacts}
 use Rattle.reach.specs.Marks.{at, testOf}
 use Rattle.reach.specs.Columns as steps
 use Rattle.reach.proofs.Shared.{filled-keep}
 use Rattle.judge.specs.declared.nodes.Job.{Job}
 use Rattle.judge.specs.declared.nodes.Have.{Have}
-use Rattle.judge.specs.Nodes.{modalKind, Packed, Known, Words, cutOf, Stepped, Kept, Ready}
+use Rattle.judge.specs.Nodes.{modalKind, Known, Words, cutOf, Stepped, Kept, Ready}
+use Rattle.judge.specs.Prepared.{Lent}
 use Rattle.judge.proofs.Slices.{test-at}
 use Rattle.judge.proofs.KnownLaws.{size, at-cut}
 use Rattle.judge.proofs.WordLaws.{known}
@@ -46,17 +47,17 @@ module _ (t : Table) (row : Row) (j : Job) (log edges words : List ℕ) (K : Kno
     line-a = ap (λ (l : NodeLine). l .a) (K .line-is)
 
     there : j .line .a < t .used .automata
-    there = omega (arith, line-a, modal-facts t (K .facts) k kind-is .automaton<)
+    there = omega (arith, line-a, modal-facts t (K .lent .facts) k kind-is .automaton<)
 
     above : automatonAt t (j .line .a) .before ≤ j .number .0
-    above = subst (λ (m : ℕ). automatonAt t m .before ≤ j .number .0) (sym line-a) (modal-facts t (K .facts) k kind-is .before≤)
+    above = subst (λ (m : ℕ). automatonAt t m .before ≤ j .number .0) (sym line-a) (modal-facts t (K .lent .facts) k kind-is .before≤)
 
     abbrev SteppedBy : ℕ → List ℕ → Automaton → Type 0
     SteppedBy looks C q = Stepped (cutOf q edges) words looks C
 
     pub ready-same : (have : Have) (C : List ℕ) → j .line .a ≡ have .automaton → Kept t edges words (j .number .0) have C → Ready t j edges words have C
     ready-same have C same K₀ =
-        let l : have .automaton < automatonLimit = omega (arith, same, there, K .facts .automata≤) in
+        let l : have .automaton < automatonLimit = omega (arith, same, there, K .lent .facts .automata≤) in
         record { kept = K₀; mine = λ _. subst (SteppedBy (have .looks) C) (ap (automatonAt t) (sym same) ∙ sym (K .automaton-is e)) (K₀ .stepped l) }
 
     pub ready-new : (have : Have) (C : List ℕ) → have .automaton ≡ j .line .a → length C ≡ 49 * length words → Stepped (cutOf (j .automaton) edges) words (have .looks) C → Ready t j edges words have C
@@ -72,9 +73,9 @@ module _ (t : Table) (row : Row) (j : Job) (log edges words : List ℕ) (K : Kno
         }
 
 -- the words of one node more agree on the nodes that the edges test
-pub kept-next : (t : Table) (f : TableFacts t) (row : Row) (log edges W W2 C : List ℕ) (k : ℕ) (have : Have) → Packed t (t .used .edges) edges → Words (sheetOf t) (bitsOf row) log k W → Words (sheetOf t) (bitsOf row) log (k + 1) W2
+pub kept-next : (t : Table) (row : Row) (log edges W W2 C : List ℕ) (k : ℕ) (have : Have) → Lent t edges → Words (sheetOf t) (bitsOf row) log k W → Words (sheetOf t) (bitsOf row) log (k + 1) W2
     → Kept t edges W k have C → Kept t edges W2 (k + 1) have C
-kept-next t f row log edges W W2 C k have P A B K =
+kept-next t row log edges W W2 C k have L A B K =
     record {
       long = K .long ∙ ap (λ (n : ℕ). 49 * n) long;
       there = K .there;
@@ -106,11 +107,11 @@ kept-next t f row log edges W W2 C k have P A B K =
     same : have .automaton < automatonLimit → (i e : ℕ) → i < length W → e < length (cutOf (automatonAt t (have .automaton)) edges)
         → bit (at W2 i) (testOf (at (cutOf (automatonAt t (have .automaton)) edges) e)) ≡ bit (at W i) (testOf (at (cutOf (automatonAt t (have .automaton)) edges) e))
     same l i e li le =
-        let a = f .automaton m (K .there l) in
+        let a = L .facts .automaton m (K .there l) in
         let x = edgeAt t (automatonAt t m .first + e) in
-        let z = test-at t (f .nodes≤) m a edges (E m) P (size t m a edges P) (at-cut t m a edges P) e le in
+        let z = test-at t (L .facts .nodes≤) (L .facts .edges≤) m a edges (E m) (L .packed) (size t m a edges L) (at-cut t m a edges L) e le in
         let test = testOf (at (E m) e) in
-        let g = a .edge (automatonAt t m .first + e) (omega arith) (omega (arith, size t m a edges P)) in
+        let g = a .edge (automatonAt t m .first + e) (omega arith) (omega (arith, size t m a edges L)) in
         let low : test < k = omega (arith, z, g .test<, K .above l) in
         let li2 : i < length log = omega (arith, A .size) in
         known S ρ log (k + 1) W2 B test i li2 ∙ judge-below S log ρ (k + 1) test i (omega arith) ∙ sym (judge-below S log ρ k test i low) ∙ sym (known S ρ log k W A test i li2)

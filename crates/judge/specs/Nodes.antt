@@ -15,9 +15,10 @@ use Rattle.aldlf.specs.declared.Table.{Table}
 use Rattle.aldlf.specs.declared.Row.{Row}
 use Rattle.aldlf.specs.declared.NodeLine.{NodeLine}
 use Rattle.aldlf.specs.declared.Automaton.{Automaton}
-use Rattle.sheet.specs.Facts.{nodeAt, automatonAt, edgeAt, TableFacts}
-use Rattle.reach.specs.Marks.{at, pick, verdictIn, verdictAdded, packedOf, Reaching}
+use Rattle.sheet.specs.Facts.{nodeAt, automatonAt}
+use Rattle.reach.specs.Marks.{at, pick, verdictIn, verdictAdded, Reaching}
 use Rattle.reach.specs.Columns as steps
+use Rattle.judge.specs.Prepared.{Lent}
 use Rattle.judge.specs.declared.core.Part.{Part}
 use Rattle.judge.specs.declared.core.CoreAnswer.{CoreAnswer}
 use Rattle.judge.specs.declared.nodes.Job.{Job}
@@ -83,11 +84,6 @@ pub record ModalDone (E : List ℕ) (j : Job) (before after : List ℕ) (r : Nod
   pub added : Added (j .number .0) (λ i. facing (eqb (j .line .kind) letterD) (bit (at masks i) (j .automaton .start .0))) (length before) before after (r .held)
   pub number : r .number ≡ rowNumber j (eqb (j .line .kind) letterD) masks
 
--- The first n edges as numbers.
-pub record Packed (t : Table) (n : ℕ) (edges : List ℕ) : Type 0 where
-  pub room : n ≤ length edges
-  pub edge-is : (e : ℕ) → e < n → at edges e ≡ packedOf (edgeAt t e)
-
 -- The words of the nodes below k.
 pub record Words (S : Sheet) (ρ : Bits) (log : List ℕ) (k : ℕ) (words : List ℕ) : Type 0 where
   pub size : length words ≡ length log
@@ -106,12 +102,11 @@ heldAfter S ρ log (suc k) = countBelow (length log) (λ i. judge S log ρ (suc 
 
 -- What is known where a node is judged.
 pub record Known (t : Table) (row : Row) (j : Job) (log edges words : List ℕ) : Type 0 where
-  pub facts : TableFacts t
+  pub lent : Lent t edges
   pub in-table : j .number .0 < t .used .nodes
   pub line-is : j .line ≡ nodeAt t (j .number .0)
   pub automaton-is : modalKind (j .line .kind) ≡ true → j .automaton ≡ automatonAt t (j .line .a)
   pub given-is : j .given ≡ getD (row .bits) (j .number .0) 0
-  pub packed : Packed t (t .used .edges) edges
   pub words-are : Words (sheetOf t) (bitsOf row) log (j .number .0) words
 
 -- A node is judged.
@@ -143,13 +138,20 @@ pub record Ready (t : Table) (j : Job) (edges words : List ℕ) (have : Have) (C
   pub mine : modalKind (j .line .kind) ≡ true → Stepped (cutOf (j .automaton) edges) words (have .looks) C
 
 -- All nodes are judged.
-pub record CoreDone (p : Part) (log words : List ℕ) (r : CoreAnswer) : Type 0 where
-  pub row-is : r .row ≡ packRow (rowOf (p .way) (sheetOf (p .table)) log (bitsOf (p .row)))
-  pub words-are : words ≡ partWords (sheetOf (p .table)) (bitsOf (p .row)) log
-  pub held-is : r .held ≡ heldAfter (sheetOf (p .table)) (bitsOf (p .row)) log (p .table .used .nodes)
+pub record CoreDone (t : Table) (p : Part) (log words : List ℕ) (r : CoreAnswer) : Type 0 where
+  pub row-is : r .row ≡ packRow (rowOf (p .way) (sheetOf t) log (bitsOf (p .row)))
+  pub words-are : words ≡ partWords (sheetOf t) (bitsOf (p .row)) log
+  pub held-is : r .held ≡ heldAfter (sheetOf t) (bitsOf (p .row)) log (t .used .nodes)
+
+-- The first k nodes are judged, and whose steps are at hand.
+pub record Through (t : Table) (p : Part) (log numbers words steps out : List ℕ) (held : ℕ) (have : Have) (k : ℕ) : Type 0 where
+  pub words-are : Words (sheetOf t) (bitsOf (p .row)) log k words
+  pub row-is : Filled (λ j. packBits stateLimit (λ s. rowOf (p .way) (sheetOf t) log (bitsOf (p .row)) j s)) out k
+  pub held-is : held ≡ heldAfter (sheetOf t) (bitsOf (p .row)) log k
+  pub kept : Kept t numbers words k have steps
 
 -- The same, with the words in the first places of a buffer and the rest of it kept.
-pub record CorePut (p : Part) (log before after : List ℕ) (r : CoreAnswer) : Type 0 where
+pub record CorePut (t : Table) (p : Part) (log before after : List ℕ) (r : CoreAnswer) : Type 0 where
   pub words : List ℕ
-  pub done : CoreDone p log words r
+  pub done : CoreDone t p log words r
   pub put : after ≡ words ++ drop (length log) before

@@ -1,15 +1,20 @@
--- A table prepared for many logs.
+-- A table lent as numbers, and prepared for many logs.
 use mathlib.Core.Path.{_≡_}
 use Prim.Native.Nat.{ℕ}
 use mathlib.Core.List.{List}
 use Rattle.aldlf.specs.Sheet.{sheetOf}
 use Rattle.aldlf.specs.Outcomes.{plainRow}
 use Rattle.aldlf.specs.declared.Table.{Table}
-use Rattle.judge.specs.declared.prepared.Prepared.{Prepared}
-use Rattle.judge.specs.Nodes.{Packed}
+use Rattle.aldlf.specs.declared.Row.{Row}
+use Rattle.packing.specs.Packed.{Packed}
+use Rattle.sheet.specs.Facts.{TableFacts}
 
--- The table itself with its plain row, and its edges as numbers.
-pub record PreparedFor (t : Table) (edges : List ℕ) (r : Prepared) : Type 0 where
-  pub table-is : r .table ≡ t
-  pub plain-is : r .plain ≡ plainRow (sheetOf t)
-  pub packed : Packed t (t .used .edges) edges
+-- A table that some sheet gives, lent as numbers, its edges first.
+pub record Lent (t : Table) (numbers : List ℕ) : Type 0 where
+  pub facts : TableFacts t
+  pub packed : Packed t numbers
+
+-- The table is lent as these numbers, and this is its plain row.
+pub record Prepared (t : Table) (plain : Row) (numbers : List ℕ) : Type 0 where
+  pub lent : Lent t numbers
+  pub plain-is : plain ≡ plainRow (sheetOf t)

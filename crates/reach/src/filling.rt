@@ -104,8 +104,8 @@ fn traits_of(edges: &[u32]) -> Traits
     let mut e: usize = 0;
     while e < edges.len() {
         let p = edges[e];
-        looks = looks | one_bit(group_of((p / 65536 % 256) as u8));
-        tested = tested | node_bit((p / 16777216) as u8);
+        looks = looks | one_bit(group_of((p / 256 % 256) as u8));
+        tested = tested | node_bit((p / 65536 % 256) as u8);
         e += 1;
     }
     Traits { looks, tested }

@@ -5,7 +5,6 @@ pub mod filling;
 mod spreading;
 mod steps;
 
-use aldlf::Edge;
 use aldlf::Node;
 use spreading::rise;
 use spreading::sweep;
@@ -17,7 +16,7 @@ ghost use lib.ListN.{length};
 ghost use Rattle.aldlf.specs.Sheet.{«bit» as bitOf};
 ghost use Rattle.aldlf.specs.Verdict.{«facing» as facingOf};
 ghost use Rattle.aldlf.specs.Constants.{nodeLimit, entryLimit};
-ghost use Rattle.reach.specs.Marks.{pick, verdictIn, verdictAdded, packedOf, EdgesFit, Reaching};
+ghost use Rattle.reach.specs.Marks.{pick, verdictIn, verdictAdded, EdgesFit, Reaching};
 ghost use Rattle.reach.specs.Columns.{Told, Placed, Filled};
 ghost use Rattle.reach.specs.Steps.{Seeded};
 
@@ -45,16 +44,6 @@ pub fn mark(goal: Goal, words: &[u64], steps: &[u16], masks: &mut [u16])
         return;
     }
     rise(goal.exits, goal.looks, steps, masks);
-}
-
-// An edge as one number, a byte for each field. Internal.
-pub fn packed(e: Edge) -> u32
-    ensures { λ r. ⌜ r ≡ packedOf e ⌝ }
-{
-    (e.from.0 as u32)
-        + 256 * (e.to.0 as u32)
-        + 65536 * (e.dir as u32)
-        + 16777216 * (e.test.0 as u32)
 }
 
 // The verdict on a node, from its entry's word. Internal: verdict words are read here and written by `with_verdict` alone.

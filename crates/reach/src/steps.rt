@@ -115,7 +115,7 @@ fn add_edge(p: u32, word: u64, place: usize, steps: &mut [u16])
 {
     let c = place + column_of(p);
     let from = one_bit((p % 256) as u16);
-    let on = verdict(word, Node((p / 16777216) as u8));
+    let on = verdict(word, Node((p / 65536 % 256) as u8));
     let old = steps[c];
     steps[c] = chosen(on, old | from, old);
 }
@@ -132,8 +132,8 @@ fn column_of(p: u32) -> usize
     requires { ⌜ EdgeFits p ⌝ }
     ensures { λ r. ⌜ (r ≡ columnOf p) × (r < 48) ⌝ }
 {
-    let to = (p / 256 % 256) as usize;
-    let dir = (p / 65536 % 256) as u8;
+    let to = (p / 16777216 % 256) as usize;
+    let dir = (p / 256 % 256) as u8;
     16 * (group_of(dir) as usize) + to
 }
 

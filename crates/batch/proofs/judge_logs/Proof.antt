@@ -1,27 +1,31 @@
 -- `judge_logs` meets its contract: refused before anything is judged, else every log judged. Assumes nothing.
-use mathlib.Core.Path.{_≡_, sym, subst, ap, _∙_}
-use mathlib.Core.List.{List}
-use Prim.Native.Nat.{ℕ}
+use mathlib.Core.Bool.{true}
+use mathlib.Core.Path.{_≡_, sym, ap, _∙_}
 use lib.ListN.{length}
 use denote.Ref.{now}
-use native.Mathlib.Omega.{arith}
 use Rattle.aldlf.specs.Sheet.{sheetOf}
-use Rattle.aldlf.specs.declared.Table.{Table}
-use Rattle.judge.specs.Prepared.{PreparedFor}
-use Rattle.judge.specs.declared.prepared.Prepared.{Prepared}
-use Rattle.sheet.specs.Facts.{TableFacts}
+use Rattle.judge.specs.Prepared.{Lent, Prepared}
 use Rattle.sheet.specs.Given.{wellFormed}
 use Rattle.sheet.proofs.Facts.{table-facts}
-use Rattle.batch.specs.Batch.{verdictsAfter, heldAfter}
+use Rattle.batch.specs.Batch.{misfit, roomless}
 use Rattle.batch.specs.declared.BatchAnswer.{BatchAnswer}
 use Rattle.batch.proofs.Answers.{accepted, ends-refused, ends-judged}
 use borrow.Author.Needs.{needs}
 use Rattle.batch.proofs.judge_logs.Statement.{statement}
 use Rattle.batch.proofs.judge_logs.Tie as tie
 
--- what is prepared of a table is prepared of what was prepared
-self : (t : Table) (edges : List ℕ) (r : Prepared) → PreparedFor t edges r → PreparedFor (r .table) edges r
-self t edges r P = subst (λ (z : Table). PreparedFor z edges r) (sym (P .table-is)) P
+-- all questions got a yes
+yes : (c : tie.Else1) → let a = c .before .before .before .before .before .before .before .args in
+    (wellFormed (a .table) ≡ true) × (misfit (length (now (a .words))) (now (a .lengths)) ≡ 0) × (roomless (length (now (a .verdicts))) (length (now (a .held))) (now (a .lengths)) ≡ 0)
+yes c =
+    let a = c .before .before .before .before .before .before .before .args in
+    accepted (wellFormed (a .table)) (length (now (a .words))) (now (a .lengths)) (length (now (a .verdicts))) (length (now (a .held))) (sym (ap (λ (x : BatchAnswer). x .number) (c .before .before .asked .ensures)) ∙ c .if1 .left)
+
+lent : (c : tie.After-pack) → Lent (c .before .before .before .before .before .before .before .before .before .args .table) (c .pack .last .1 .0)
+lent c = record { facts = table-facts (c .before .before .before .before .before .before .before .before .before .args .table) (yes (c .before .before) .0); packed = c .pack .ensures }
+
+prepared : (c : tie.After-plain-of) → Prepared (c .before .before .before .before .before .before .before .before .before .before .before .before .args .table) (c .plain-of .result) (c .before .before .before .pack .last .1 .0)
+prepared c = record { lent = lent (c .before .before .before); plain-is = c .plain-of .ensures (c .before .before .before .before .before .before .before .before .before .before .before .before .args .table) (lent (c .before .before .before)) }
 
 asked-requires : tie.Need-asked-requires
 asked-requires c κs = search needs
@@ -32,26 +36,23 @@ returns c =
     let q = c .before .before .asked in
     ends-refused (wellFormed (a .table)) (sheetOf (a .table)) (now (a .words)) (now (a .lengths)) (now (a .verdicts)) (now (a .held)) (q .result) (q .ensures) (c .if1 .taken)
 
-slice-aggregate-prepare : tie.Need-slice-aggregate-prepare
-slice-aggregate-prepare c = search needs
+slice-aggregate-pack : tie.Need-slice-aggregate-pack
+slice-aggregate-pack c = search needs
 
-prepare-requires : tie.Need-prepare-requires
-prepare-requires c κs =
-    let a = c .before .before .before .before .before .before .before .before .args in
-    let q = c .before .before .before .asked in
-    let yes = accepted (wellFormed (a .table)) (length (now (a .words))) (now (a .lengths)) (length (now (a .verdicts))) (length (now (a .held))) (sym (ap (λ (x : BatchAnswer). x .number) (q .ensures)) ∙ c .before .if1 .left) in
-    (table-facts (a .table) (yes .0), omega arith)
+pack-requires : tie.Need-pack-requires
+pack-requires c κs = search needs
+
+slice-aggregate-plain-of : tie.Need-slice-aggregate-plain-of
+slice-aggregate-plain-of c = search needs
+
+plain-of-requires : tie.Need-plain-of-requires
+plain-of-requires c κs = (c .before .before .before .before .before .before .before .before .before .before .before .args .table, lent (c .before .before))
 
 slice-aggregate-judge-each : tie.Need-slice-aggregate-judge-each
 slice-aggregate-judge-each c = search needs
 
 judge-each-requires : tie.Need-judge-each-requires
-judge-each-requires c κs =
-    let a = c .before .before .before .before .before .before .before .before .before .before .before .before .before .args in
-    let q = c .before .before .before .before .before .before .before .before .asked in
-    let P = c .before .before .before .before .prepare .ensures in
-    let yes = accepted (wellFormed (a .table)) (length (now (a .words))) (now (a .lengths)) (length (now (a .verdicts))) (length (now (a .held))) (sym (ap (λ (x : BatchAnswer). x .number) (q .ensures)) ∙ c .before .before .before .before .before .before .if1 .left) in
-    ((subst TableFacts (sym (P .table-is)) (table-facts (a .table) (yes .0)), self _ _ _ P), (yes .1, yes .2))
+judge-each-requires c κs = let y = yes (c .before .before .before .before .before .before .before .before) in (((c .before .before .before .before .before .before .before .before .before .before .before .before .before .before .before .args .table), prepared (c .before .before .before)), (y .1, y .2))
 
 same-length : tie.Need-same-length
 same-length c = search needs
@@ -61,13 +62,11 @@ same-length-2 c = search needs
 
 returns-2 : tie.Need-returns-2
 returns-2 c =
-    let a = c .before .before .before .before .before .before .before .before .before .before .before .before .before .before .before .before .before .before .args in
-    let q = c .before .before .before .before .before .before .before .before .before .before .before .before .before .asked in
+    let a = c .before .before .before .before .before .before .before .before .before .before .before .before .before .before .before .before .before .before .before .before .args in
+    let q = c .before .before .before .before .before .before .before .before .before .before .before .before .before .before .before .asked in
     let j = c .before .before .before .before .judge-each in
-    let is = c .before .before .before .before .before .before .before .before .before .prepare .ensures .table-is in
-    ends-judged (wellFormed (a .table)) (sheetOf (a .table)) (now (a .words)) (now (a .lengths)) (now (a .verdicts)) (now (a .held)) (q .result) (q .ensures) (c .before .before .before .before .before .before .before .before .before .before .before .if1 .left) _ _
-    (j .ensures .0 ∙ ap (λ (t : Table). verdictsAfter (sheetOf t) (now (a .words)) (now (a .lengths)) (now (a .verdicts))) is)
-    (j .ensures .1 ∙ ap (λ (t : Table). heldAfter (sheetOf t) (now (a .words)) (now (a .lengths)) (now (a .held))) is)
+    let P = prepared (c .before .before .before .before .before .before .before .before) in
+    ends-judged (wellFormed (a .table)) (sheetOf (a .table)) (now (a .words)) (now (a .lengths)) (now (a .verdicts)) (now (a .held)) (q .result) (q .ensures) (c .before .before .before .before .before .before .before .before .before .before .before .before .before .if1 .left) _ _ (j .ensures .0 (a .table) P) (j .ensures .1 (a .table) P)
 
 pub judge-logs-spec : {M : Type 1} → statement M
 judge-logs-spec =
@@ -75,8 +74,10 @@ judge-logs-spec =
     (tie.spec
     asked-requires
     returns
-    slice-aggregate-prepare
-    prepare-requires
+    slice-aggregate-pack
+    pack-requires
+    slice-aggregate-plain-of
+    plain-of-requires
     slice-aggregate-judge-each
     judge-each-requires
     same-length

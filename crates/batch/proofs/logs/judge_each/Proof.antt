@@ -5,6 +5,8 @@ use mathlib.Core.Path.{_≡_, sym, _∙_}
 use lib.ListN.{length, getD, take, drop}
 use denote.Ref.{now}
 use Rattle.aldlf.specs.Sheet.{sheetOf}
+use Rattle.aldlf.specs.declared.Table.{Table}
+use Rattle.judge.specs.Prepared.{Prepared}
 use Rattle.batch.proofs.Single.{held-few}
 use Rattle.batch.proofs.Places.{Judged, start, Turn, turn, same-verdicts, same-held, log-long, room-long, next, all-words, all-counts}
 use borrow.Author.Needs.{needs}
@@ -12,40 +14,49 @@ use Rattle.batch.proofs.logs.judge_each.Statement.{statement}
 use Rattle.batch.proofs.logs.judge_each.Tie as tie
 
 abbrev Inv-loop : tie.InvT-loop
-Inv-loop with edges words lengths verdicts₀ held₀ at₀ k₀ verdicts held at k = Judged (sheetOf (with .table)) words lengths verdicts₀ held₀ verdicts held at k
+Inv-loop plain numbers words lengths verdicts₀ held₀ at₀ k₀ verdicts held at k =
+    (t : Table) → Prepared t plain numbers → Judged (sheetOf t) words lengths verdicts₀ held₀ verdicts held at k
 
 abbrev μ-loop : tie.MeasureT-loop
-μ-loop with edges words lengths verdicts₀ held₀ at₀ k₀ verdicts held at k = length lengths - k
+μ-loop plain numbers words lengths verdicts₀ held₀ at₀ k₀ verdicts held at k = length lengths - k
 
 -- what is known of log k at the loop's test
 known : (c : tie.In-loop Inv-loop μ-loop) → let a = c .before .before .before .before .before .before .before .args in let l = c .before .loop in Turn (now (a .words)) (now (a .lengths)) (now (a .verdicts)) (now (a .held)) (l .at) (l .k)
 known c =
-    let a = c .before .before .before .before .before .before .before .args in
+    let S = c .before .before .before .before .before .before .before in
+    let a = S .args in
+    let w = S .pre .0 in
     let l = c .before .loop in
-    turn (sheetOf (a .with .table)) (now (a .words)) (now (a .lengths)) (now (a .verdicts)) (now (a .held)) (l .verdicts) (l .held) (l .at) (l .k) (l .inv) (c .loop-test .taken)
+    turn (sheetOf (w .0)) (now (a .words)) (now (a .lengths)) (now (a .verdicts)) (now (a .held)) (l .verdicts) (l .held) (l .at) (l .k) (l .inv (w .0) (w .1)) (c .loop-test .taken)
 
 -- log k, cut out of the words, has as many as its length says
 cut : (c : tie.In-loop Inv-loop μ-loop) → let a = c .before .before .before .before .before .before .before .args in let l = c .before .loop in let n = getD (now (a .lengths)) (l .k) 0 in length (take (l .at + n - l .at) (drop (l .at) (now (a .words)))) ≡ n
 cut c =
-    let a = c .before .before .before .before .before .before .before .args in
+    let S = c .before .before .before .before .before .before .before in
+    let a = S .args in
+    let w = S .pre .0 in
     let l = c .before .loop in
-    log-long (sheetOf (a .with .table)) (now (a .words)) (now (a .lengths)) (now (a .verdicts)) (now (a .held)) (l .verdicts) (l .held) (l .at) (l .k) (l .inv) (c .loop-test .taken)
+    log-long (sheetOf (w .0)) (now (a .words)) (now (a .lengths)) (now (a .verdicts)) (now (a .held)) (l .verdicts) (l .held) (l .at) (l .k) (l .inv (w .0) (w .1)) (c .loop-test .taken)
 
 long : (c : tie.At-loop Inv-loop μ-loop) → length (c .loop .verdicts) ≡ length (now (c .before .before .before .before .before .before .args .verdicts))
 long c =
-    let a = c .before .before .before .before .before .before .args in
+    let S = c .before .before .before .before .before .before in
+    let a = S .args in
+    let w = S .pre .0 in
     let l = c .loop in
-    same-verdicts (sheetOf (a .with .table)) (now (a .words)) (now (a .lengths)) (now (a .verdicts)) (now (a .held)) (l .verdicts) (l .held) (l .at) (l .k) (l .inv)
+    same-verdicts (sheetOf (w .0)) (now (a .words)) (now (a .lengths)) (now (a .verdicts)) (now (a .held)) (l .verdicts) (l .held) (l .at) (l .k) (l .inv (w .0) (w .1))
 
 long-held : (c : tie.At-loop Inv-loop μ-loop) → length (c .loop .held) ≡ length (now (c .before .before .before .before .before .before .args .held))
 long-held c =
-    let a = c .before .before .before .before .before .before .args in
+    let S = c .before .before .before .before .before .before in
+    let a = S .args in
+    let w = S .pre .0 in
     let l = c .loop in
-    same-held (sheetOf (a .with .table)) (now (a .words)) (now (a .lengths)) (now (a .verdicts)) (now (a .held)) (l .verdicts) (l .held) (l .at) (l .k) (l .inv)
+    same-held (sheetOf (w .0)) (now (a .words)) (now (a .lengths)) (now (a .verdicts)) (now (a .held)) (l .verdicts) (l .held) (l .at) (l .k) (l .inv (w .0) (w .1))
 
 loop-holds : tie.Need-loop-holds Inv-loop μ-loop
 loop-holds c = let S = c .before .before .before .before .before in
-    start (sheetOf (S .args .with .table)) (now (S .args .words)) (now (S .args .lengths)) (now (S .args .verdicts)) (now (S .args .held)) (S .pre .1 .0) (S .pre .1 .1)
+    λ t P. start (sheetOf t) (now (S .args .words)) (now (S .args .lengths)) (now (S .args .verdicts)) (now (S .args .held)) (S .pre .1 .0) (S .pre .1 .1)
 
 mul-end : tie.Need-mul-end Inv-loop μ-loop
 mul-end c = search needs
@@ -90,15 +101,18 @@ judge-one-requires c κs =
     let l = c .before .before .before .before .loop in
     let t = known (c .before .before .before) in
     let n = cut (c .before .before .before) in
-    let v = room-long (sheetOf (a .with .table)) (now (a .words)) (now (a .lengths)) (now (a .verdicts)) (now (a .held)) (l .verdicts) (l .held) (l .at) (l .k) (l .inv) (c .before .before .before .loop-test .taken) in
+    let w = S .pre .0 in
+    let v = room-long (sheetOf (w .0)) (now (a .words)) (now (a .lengths)) (now (a .verdicts)) (now (a .held)) (l .verdicts) (l .held) (l .at) (l .k) (l .inv (w .0) (w .1)) (c .before .before .before .loop-test .taken) in
     (S .pre .0, (omega (arith, t .log .few, n), v ∙ sym n))
 
 cast-held : tie.Need-cast-held Inv-loop μ-loop
 cast-held c =
-    let a = c .before .before .before .before .before .before .before .before .before .before .before .before .before .args in
+    let S = c .before .before .before .before .before .before .before .before .before .before .before .before .before in
+    let a = S .args in
+    let w = S .pre .0 in
     let l = c .before .before .before .before .before .before .before .loop in
     let n = getD (now (a .lengths)) (l .k) 0 in
-    omega (arith, c .before .before .judge-one .ensures .1, held-few (sheetOf (a .with .table)) (take (l .at + n - l .at) (drop (l .at) (now (a .words)))), cut (c .before .before .before .before .before .before), known (c .before .before .before .before .before .before) .log .few)
+    omega (arith, c .before .before .judge-one .ensures .1 (w .0) (w .1), held-few (sheetOf (w .0)) (take (l .at + n - l .at) (drop (l .at) (now (a .words)))), cut (c .before .before .before .before .before .before), known (c .before .before .before .before .before .before) .log .few)
 
 mul-held : tie.Need-mul-held Inv-loop μ-loop
 mul-held c = let t = known (c .before .before .before .before .before .before) .held-room in let e = long-held (c .before .before .before .before .before .before .before) in omega arith
@@ -114,11 +128,13 @@ loop-less c = search needs
 
 loop-again : tie.Need-loop-again Inv-loop μ-loop
 loop-again c =
-    let a = c .before .before .before .before .before .before .before .before .before .before .before .before .before .args in
+    let S = c .before .before .before .before .before .before .before .before .before .before .before .before .before in
+    let a = S .args in
+    let w = S .pre .0 in
     let l = c .before .before .before .before .before .before .before .loop in
     let j = c .before .before .judge-one in
-    next (sheetOf (a .with .table)) (now (a .words)) (now (a .lengths)) (now (a .verdicts)) (now (a .held)) (l .verdicts) (l .held) (l .at) (l .k) (l .inv) (c .before .before .before .before .before .before .loop-test .taken)
-    (j .last .1 .1 .1 .0) (j .result) (j .ensures .0) (j .ensures .1)
+    λ t P. next (sheetOf t) (now (a .words)) (now (a .lengths)) (now (a .verdicts)) (now (a .held)) (l .verdicts) (l .held) (l .at) (l .k) (l .inv t P) (c .before .before .before .before .before .before .loop-test .taken)
+    (j .last .1 .1 .1 .0) (j .result) (j .ensures .0 t P) (j .ensures .1 t P)
 
 same-length : tie.Need-same-length Inv-loop μ-loop
 same-length c = long (c .before)
@@ -131,8 +147,8 @@ returns c =
     let S = c .before .before .before .before .before .before .before in
     let a = S .args in
     let l = c .before .loop in (
-      all-words (sheetOf (a .with .table)) (now (a .words)) (now (a .lengths)) (now (a .verdicts)) (now (a .held)) (l .verdicts) (l .held) (l .at) (l .k) (l .inv) (S .pre .1 .0) (c .loop-test .left),
-      all-counts (sheetOf (a .with .table)) (now (a .words)) (now (a .lengths)) (now (a .verdicts)) (now (a .held)) (l .verdicts) (l .held) (l .at) (l .k) (l .inv) (S .pre .1 .0) (c .loop-test .left),
+      λ t P. all-words (sheetOf t) (now (a .words)) (now (a .lengths)) (now (a .verdicts)) (now (a .held)) (l .verdicts) (l .held) (l .at) (l .k) (l .inv t P) (S .pre .1 .0) (c .loop-test .left),
+      λ t P. all-counts (sheetOf t) (now (a .words)) (now (a .lengths)) (now (a .verdicts)) (now (a .held)) (l .verdicts) (l .held) (l .at) (l .k) (l .inv t P) (S .pre .1 .0) (c .loop-test .left),
     )
 
 pub judge-each-spec : {M : Type 1} → statement M

@@ -12,7 +12,7 @@ use Rattle.batch.proofs.logs.judge_one.Statement.{statement}
 use Rattle.batch.proofs.logs.judge_one.Tie as tie
 
 judge-log-requires : tie.Need-judge-log-requires
-judge-log-requires c κs = let S = c .before .before .before .before in (S .pre .0 .0, (S .pre .0 .1, (omega (arith, S .pre .1 .1), S .pre .1 .0)))
+judge-log-requires c κs = let S = c .before .before .before .before in (S .pre .0, (omega (arith, S .pre .1 .1), S .pre .1 .0))
 
 same-length : tie.Need-same-length
 same-length c = search needs
@@ -21,8 +21,7 @@ returns : tie.Need-returns
 returns c = let S = c .before .before .before .before .before .before .before in
     let r = c .before .before .judge-log .ensures in
     let all : length (now (S .args .verdicts)) ≤ length (now (S .args .log)) = omega (arith, S .pre .1 .1) in
-    let words = logWords (sheetOf (S .args .with .table)) (now (S .args .log)) in
-    (r .1 ∙ ap (λ (l : List ℕ). words ++ l) (drop-of-length-le (now (S .args .verdicts)) all) ∙ append-nil words, r .0)
+    (λ t P. r .1 t P ∙ ap (λ (l : List ℕ). logWords (sheetOf t) (now (S .args .log)) ++ l) (drop-of-length-le (now (S .args .verdicts)) all) ∙ append-nil (logWords (sheetOf t) (now (S .args .log))), r .0)
 
 pub judge-one-spec : {M : Type 1} → statement M
 judge-one-spec = tie.close (tie.spec judge-log-requires same-length returns)

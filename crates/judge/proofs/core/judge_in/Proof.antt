@@ -19,7 +19,7 @@ slice-relend-prefix-judge-nodes : tie.Need-slice-relend-prefix-judge-nodes
 slice-relend-prefix-judge-nodes c = search needs
 
 slice-aggregate-judge-nodes : tie.Need-slice-aggregate-judge-nodes
-slice-aggregate-judge-nodes c = let S = c .before .before .before .before .before .before .before in sym (length-take-le _ _ (S .pre .1 .1 .1 .0 .0))
+slice-aggregate-judge-nodes c = let S = c .before .before .before .before .before .before .before in sym (length-take-le _ _ (S .pre .1 .1 .0 .0))
 
 mul-judge-nodes : tie.Need-mul-judge-nodes
 mul-judge-nodes c = search needs
@@ -28,31 +28,28 @@ slice-relend-prefix-judge-nodes-2 : tie.Need-slice-relend-prefix-judge-nodes-2
 slice-relend-prefix-judge-nodes-2 c = search needs
 
 slice-aggregate-judge-nodes-2 : tie.Need-slice-aggregate-judge-nodes-2
-slice-aggregate-judge-nodes-2 c = let S = c .before .before .before .before .before .before .before .before in sym (length-take-le _ _ (S .pre .1 .1 .1 .0 .1))
+slice-aggregate-judge-nodes-2 c = let S = c .before .before .before .before .before .before .before .before in sym (length-take-le _ _ (S .pre .1 .1 .0 .1))
 
 slice-relend-prefix-judge-nodes-3 : tie.Need-slice-relend-prefix-judge-nodes-3
 slice-relend-prefix-judge-nodes-3 c = search needs
 
 slice-aggregate-judge-nodes-3 : tie.Need-slice-aggregate-judge-nodes-3
-slice-aggregate-judge-nodes-3 c = let S = c .before .before .before .before .before .before .before .before .before in sym (length-take-le _ _ (S .pre .1 .1 .1 .0 .2))
+slice-aggregate-judge-nodes-3 c = let S = c .before .before .before .before .before .before .before .before .before in sym (length-take-le _ _ (S .pre .1 .1 .0 .2))
 
 judge-nodes-requires : tie.Need-judge-nodes-requires
 judge-nodes-requires c κs = let S = c .before .before .before .before .before .before .before .before .before in
-    let fit = S .pre .1 .1 .1 .0 in
+    let fit = S .pre .1 .1 .0 in
     let n = length (now (S .args .log)) in (
       S .pre .0,
       (
-        S .pre .1 .0,
-        (
-          (length-take-le n _ (fit .0), length-take-le (49 * n) _ (fit .1), length-take-le n _ (fit .2), S .pre .1 .1 .0 .1),
-          λ i l. getD-take n (now (S .args .words)) i 0 l ∙ S .pre .1 .1 .1 .1 i l,
-        ),
+        (length-take-le n _ (fit .0), length-take-le (49 * n) _ (fit .1), length-take-le n _ (fit .2), S .pre .1 .0 .1),
+        λ i l. getD-take n (now (S .args .words)) i 0 l ∙ S .pre .1 .1 .1 i l,
       ),
     )
 
 -- the words came back as long as the log
 long : (c : tie.After-judge-nodes) → length (c .judge-nodes .last .1 .1 .1 .0) ≡ length (now (c .before .before .before .before .before .before .before .before .before .before .args .log))
-long c = let S = c .before .before .before .before .before .before .before .before .before .before in c .judge-nodes .kept .1 .1 .1 .0 ∙ length-take-le (length (now (S .args .log))) _ (S .pre .1 .1 .1 .0 .0)
+long c = let S = c .before .before .before .before .before .before .before .before .before .before in c .judge-nodes .kept .1 .1 .1 .0 ∙ length-take-le (length (now (S .args .log))) _ (S .pre .1 .1 .0 .0)
 
 room : (c : tie.After-judge-nodes) → let S = c .before .before .before .before .before .before .before .before .before .before in length (now (S .args .log)) ≤ length (c .judge-nodes .last .1 .1 .1 .0 ++ drop (length (now (S .args .log))) (now (S .args .words)))
 room c = let S = c .before .before .before .before .before .before .before .before .before .before in lent-room _ (c .judge-nodes .last .1 .1 .1 .0) (now (S .args .words)) (long c)
@@ -64,7 +61,7 @@ slice-aggregate-put-words : tie.Need-slice-aggregate-put-words
 slice-aggregate-put-words c = let h = room (c .before .before .before .before .before .before .before) in search (needs, take-all)
 
 put-words-requires : tie.Need-put-words-requires
-put-words-requires c κs = let h = c .before .before .before .before .before .before .before .before .before .before .before .before .before .before .before .before .before .before .pre .1 .1 .0 .0 in search (needs, take-fits)
+put-words-requires c κs = let h = c .before .before .before .before .before .before .before .before .before .before .before .before .before .before .before .before .before .before .pre .1 .0 .0 in search (needs, take-fits)
 
 same-length : tie.Need-same-length
 same-length c = search needs
@@ -81,9 +78,9 @@ same-length-4 c = search needs
 returns : tie.Need-returns
 returns c = let S = c .before .before .before .before .before .before .before .before .before .before .before .before .before .before .before .before .before .before .before .before .before in
     let r = c .before .before .before .before .before .before .before .before .before .before .before .judge-nodes in
-    record {
+    λ t L. record {
       words = r .last .1 .1 .1 .0;
-      done = r .ensures;
+      done = r .ensures t L;
       put = c .before .before .put-words .ensures ∙ lent-put _ (r .last .1 .1 .1 .0) (now (S .args .words)) (now (S .args .verdicts)) (long (c .before .before .before .before .before .before .before .before .before .before .before));
     }
 

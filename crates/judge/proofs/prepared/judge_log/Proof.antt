@@ -2,6 +2,8 @@
 use Prim.Native.Nat.{ℕ}
 use Rattle.aldlf.specs.Run.{IsPlain}
 use Rattle.aldlf.specs.Sheet.{sheetOf}
+use Rattle.aldlf.specs.declared.Table.{Table}
+use Rattle.judge.specs.Prepared.{Prepared}
 use Rattle.judge.proofs.GivenLaws.{plain-is-plain, sound}
 use Rattle.judge.proofs.OutcomeLaws.{whole-held, whole-words}
 use denote.Ref.{now}
@@ -13,27 +15,24 @@ use Rattle.judge.proofs.prepared.judge_log.Statement.{statement}
 use Rattle.judge.proofs.prepared.judge_log.Tie as tie
 use Rattle.judge.proofs.prepared.judge_log.Reads as reads
 use Rattle.judge.proofs.prepared.judge_log.Lts as lts
-use Rattle.judge.proofs.core.judge_packed.Reads as judge-packed-reads
+use Rattle.judge.proofs.core.judge_core.Reads as judge-core-reads
 
-judge-packed-requires : tie.Need-judge-packed-requires
-judge-packed-requires c κs = search needs
+judge-core-requires : tie.Need-judge-core-requires
+judge-core-requires c κs = let S = c .before .before .before .before in ((S .pre .0 .0, S .pre .0 .1 .lent), S .pre .1)
 
 same-length : tie.Need-same-length
 same-length c = search needs
 
 returns : tie.Need-returns
 unfolding sheetOf
-returns c = let S = c .before .before .before .before .before .before .before .before .before in
-    let t = S .args .with .table in
-    let T = sheetOf t in
-    let f = S .pre .0 in
-    let row = S .args .with .plain in
+returns c = let S = c .before .before .before .before .before .before .before in
+    let row = S .args .plain in
     let log = now (S .args .log) in
-    let d = c .before .before .judge-packed .ensures in
-    let is-plain = subst (IsPlain T) (sym (S .pre .1 .0 .plain-is)) (plain-is-plain t f) in (
-      d .done .held-is ∙ whole-held T (sound t f) row is-plain log (f .some-node),
-      d .put ∙ ap (λ (l : List ℕ). l ++ drop (length log) (now (S .args .verdicts))) (d .done .words-are ∙ whole-words T (sound t f) row is-plain log),
+    let d = c .before .before .judge-core .ensures in
+    let is-plain : (t : Table) → Prepared t row (now (S .args .numbers)) → IsPlain (sheetOf t) row = λ t P. subst (IsPlain (sheetOf t)) (sym (P .plain-is)) (plain-is-plain t (P .lent .facts)) in (
+      λ t P. d t (P .lent) .done .held-is ∙ whole-held (sheetOf t) (sound t (P .lent .facts)) row (is-plain t P) log (P .lent .facts .some-node),
+      λ t P. d t (P .lent) .put ∙ ap (λ (l : List ℕ). l ++ drop (length log) (now (S .args .verdicts))) (d t (P .lent) .done .words-are ∙ whole-words (sheetOf t) (sound t (P .lent .facts)) row (is-plain t P) log),
     )
 
 pub judge-log-spec : {M : Type 1} → statement M
-judge-log-spec = tie.close (tie.spec judge-packed-requires same-length returns)
+judge-log-spec = tie.close (tie.spec judge-core-requires same-length returns)

@@ -29,8 +29,8 @@ cast-one-bit c = search needs
 one-bit-requires : tie.Need-one-bit-requires
 one-bit-requires c κs = search needs
 
-cast-t12 : tie.Need-cast-t12
-cast-t12 c = search needs
+cast-t13 : tie.Need-cast-t13
+cast-t13 c = search needs
 
 verdict-requires : tie.Need-verdict-requires
 verdict-requires c κs = search needs
@@ -70,7 +70,7 @@ add-edge-spec =
     add-c
     cast-one-bit
     one-bit-requires
-    cast-t12
+    cast-t13
     verdict-requires
     mul-old
     slice-read-old
