@@ -78,21 +78,21 @@ counts-fit u h =
     let z = both (leb 1 (u .nodes)) (leb (u .nodes) nodeLimit) (y .0) in
     record { some = leb-true 1 (u .nodes) (z .0); nodes≤ = leb-true (u .nodes) nodeLimit (z .1); automata≤ = leb-true (u .automata) automatonLimit (y .1); edges≤ = leb-true (u .edges) edgeLimit (x .1) }
 
--- the checks in their order, for a table whose arrays are as long as their types say
-module _ (t : Table) (s : sized t ≡ true) where
-  pub no-counts : usedFits (t .used) ≡ false → false ≡ wellFormed t
+-- the checks in their order, for a table whose arrays are as long as their types say and whose counts are u
+module _ (t : Table) (u : Used) (s : sized t ≡ true) (eu : u ≡ t .used) where
+  pub no-counts : usedFits u ≡ false → false ≡ wellFormed t
   unfolding wellFormed
-  no-counts h = rw (s, h)
+  no-counts h = let y = rw eu at h in rw (s, y)
 
-  pub no-nodes : usedFits (t .used) ≡ true → nodesFit t ≡ false → false ≡ wellFormed t
+  pub no-nodes : usedFits u ≡ true → nodesFit t ≡ false → false ≡ wellFormed t
   unfolding wellFormed
-  no-nodes h k = rw (s, h, k)
+  no-nodes h k = let y = rw eu at h in rw (s, y, k)
 
-  pub no-automata : usedFits (t .used) ≡ true → nodesFit t ≡ true → automataFit t ≡ false → false ≡ wellFormed t
+  pub no-automata : usedFits u ≡ true → nodesFit t ≡ true → automataFit t ≡ false → false ≡ wellFormed t
   unfolding wellFormed
-  no-automata h k m = rw (s, h, k, m)
+  no-automata h k m = let y = rw eu at h in rw (s, y, k, m)
 
-  pub by-ends : usedFits (t .used) ≡ true → nodesFit t ≡ true → automataFit t ≡ true → (a b c o : Bool) (w : ℕ) → a ≡ nodesEnd (t .nodes) (t .used .nodes) → b ≡ automataEnd (t .automata) (t .used .automata)
-      → c ≡ edgesEnd (t .edges) (t .used .edges) → o ≡ allOwned t → w ≡ wholeOf t → (a && b && c && o && leb (t .used .automata) w) ≡ wellFormed t
+  pub by-ends : usedFits u ≡ true → nodesFit t ≡ true → automataFit t ≡ true → (a b c o : Bool) (w : ℕ) → a ≡ nodesEnd (t .nodes) (u .nodes) → b ≡ automataEnd (t .automata) (u .automata)
+      → c ≡ edgesEnd (t .edges) (u .edges) → o ≡ allOwned t → w ≡ wholeOf t → (a && b && c && o && leb (u .automata) w) ≡ wellFormed t
   unfolding wellFormed
-  by-ends h k m a b c o w ea eb ec eo ew = rw (s, h, k, m, ea, eb, ec, eo, ew)
+  by-ends h k m a b c o w ea eb ec eo ew = let y = rw eu at h in rw (s, y, k, m, ea, eb, ec, eo, ew, eu)

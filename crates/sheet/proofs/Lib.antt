@@ -7,6 +7,7 @@ pub mod Asked
 pub mod Added
 pub mod Closed
 pub mod Fits
+pub mod Lent
 pub mod Passed
 pub mod Lines
 pub mod Print

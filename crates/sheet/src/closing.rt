@@ -4,10 +4,16 @@ use super::build::Reading;
 use super::refusal;
 use aldlf::Automaton;
 use aldlf::Edge;
-use aldlf::Table;
+use packing::places::automaton_at;
+use packing::places::edge_at;
+use packing::places::used_in;
 ghost use mathlib.Core.Path.{_≡_};
 ghost use Prim.Native.Nat.{_≤_};
+ghost use lib.ListN.{length};
 ghost use Rattle.aldlf.specs.Constants.{automatonLimit};
+ghost use Rattle.aldlf.specs.declared.Table.{Table};
+ghost use Rattle.packing.specs.Numbers.{places, lentUsed};
+ghost use Rattle.packing.specs.Packed.{Packed};
 ghost use Rattle.sheet.specs.Questions.{standsOn, someEdge, edgesOf, eachState, wholeOf, finish};
 
 // The answer after the last line, which is line k.
@@ -16,7 +22,9 @@ pub(crate) fn finish_of(r: Reading, k: u16) -> SheetAnswer
     ensures { λ x. ⌜ x ≡ finish r k ⌝ }
 {
     let t = r.table;
-    let w = whole_of(t);
+    let mut numbers = [0u32; packing::places::PLACES];
+    packing::writing::pack(t, &mut numbers);
+    let w = whole_of(&numbers);
     if w < t.used.automata {
         let i = w as usize;
         let line = r.mlines[i];
@@ -33,17 +41,15 @@ pub(crate) fn finish_of(r: Reading, k: u16) -> SheetAnswer
 }
 
 // How many automata stand before the first one that has a state on no edge of its own.
-pub(crate) fn whole_of(t: Table) -> u8
-    requires { ⌜ t .used .automata ≤ automatonLimit ⌝ }
-    ensures { λ r. ⌜ (r ≡ wholeOf t) × (r ≤ automatonLimit) ⌝ }
+pub(crate) fn whole_of(numbers: &[u32]) -> u8
+    requires { ⌜ (length (now numbers) ≡ places) × (lentUsed (now numbers) .automata ≤ automatonLimit) ⌝ }
+    ensures { λ r. ⌜ ((t : Table) → Packed t (now (numbers .entry)) → r ≡ wholeOf t) × (r ≤ automatonLimit) ⌝ }
 {
-    let n = t.used.automata;
-    let edges = t.edges;
+    let used = used_in(numbers);
     let mut m: u8 = 0;
-    while m < n {
-        let i = m as usize;
-        let x = t.automata[i];
-        if !each_state(edges, x) {
+    while m < used.automata {
+        let x = automaton_at(numbers, m);
+        if !each_state(numbers, x) {
             return m;
         }
         m += 1;
@@ -52,12 +58,13 @@ pub(crate) fn whole_of(t: Table) -> u8
 }
 
 // Whether each state of the automaton stands on one of its edges.
-fn each_state(edges: [Edge; aldlf::EDGES], x: Automaton) -> bool
-    ensures { λ r. ⌜ r ≡ eachState (edgesOf edges x) (x .states) ⌝ }
+fn each_state(numbers: &[u32], x: Automaton) -> bool
+    requires { ⌜ length (now numbers) ≡ places ⌝ }
+    ensures { λ r. ⌜ ((t : Table) → Packed t (now (numbers .entry)) → r ≡ eachState (edgesOf (t .edges) x) (x .states)) ⌝ }
 {
     let mut s: u8 = 0;
     while s < x.states {
-        if !some_edge(edges, x, s) {
+        if !some_edge(numbers, x, s) {
             return false;
         }
         s += 1;
@@ -66,16 +73,17 @@ fn each_state(edges: [Edge; aldlf::EDGES], x: Automaton) -> bool
 }
 
 // Whether state s stands on one of the automaton's edges.
-fn some_edge(edges: [Edge; aldlf::EDGES], x: Automaton, s: u8) -> bool
-    ensures { λ r. ⌜ r ≡ someEdge s (edgesOf edges x) ⌝ }
+fn some_edge(numbers: &[u32], x: Automaton, s: u8) -> bool
+    requires { ⌜ length (now numbers) ≡ places ⌝ }
+    ensures { λ r. ⌜ ((t : Table) → Packed t (now (numbers .entry)) → r ≡ someEdge s (edgesOf (t .edges) x)) ⌝ }
 {
-    let mut i: usize = x.first as usize;
+    let mut i: u16 = x.first;
     let mut left: u16 = x.count;
     while 0 < left {
-        if aldlf::EDGES <= i {
+        if aldlf::EDGES as u16 <= i {
             return false;
         }
-        let e = edges[i];
+        let e = edge_at(numbers, i);
         if stands_on(s, e) {
             return true;
         }

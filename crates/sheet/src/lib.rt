@@ -14,6 +14,10 @@ use closing::finish_of;
 use line::parse_line;
 use questions::question_of;
 ghost use mathlib.Core.Path.{_≡_};
+ghost use lib.ListN.{length};
+ghost use Rattle.aldlf.specs.declared.Table.{Table};
+ghost use Rattle.packing.specs.Numbers.{places};
+ghost use Rattle.packing.specs.Packed.{Packed};
 ghost use Rattle.sheet.specs.Questions.{readSheet, refused};
 ghost use Rattle.sheet.specs.Given.{wellFormed};
 
@@ -57,7 +61,17 @@ pub fn read_sheet(text: &[u8]) -> SheetAnswer
 pub fn is_given(table: Table) -> bool
     ensures { λ r. ⌜ r ≡ wellFormed table ⌝ }
 {
-    given::well_formed(table)
+    let mut numbers = [0u32; packing::places::PLACES];
+    packing::writing::pack(table, &mut numbers);
+    is_given_packed(&numbers)
+}
+
+// The same of a table that is lent as numbers. A room of the checker: its other crates call it, users do not.
+pub fn is_given_packed(numbers: &[u32]) -> bool
+    requires { ⌜ length (now numbers) ≡ places ⌝ }
+    ensures { λ r. ⌜ ((t : Table) → Packed t (now (numbers .entry)) → r ≡ wellFormed t) ⌝ }
+{
+    given::well_formed(numbers)
 }
 
 // The answer that question `number` gets a no at a line.

@@ -1,71 +1,65 @@
 -- `some_edge` meets its contract: what is left of the automaton's edges always answers as all of them. Assumes nothing.
 use Rattle.sheet.proofs.Closed.{edge-on, edge-out, edge-end}
-use Rattle.sheet.specs.Questions.{someEdge}
-use Prim.Native.Nat.{_+_, _-_, _≤_}
+use Rattle.sheet.specs.Questions.{standsOn, someEdge}
+use Rattle.aldlf.specs.declared.Table.{Table}
+use Rattle.packing.specs.Packed.{Packed}
+use Prim.Native.Nat.{_+_, _-_}
 use mathlib.Core.Path.{_≡_, refl, ap, sym, _∙_}
 use mathlib.Core.Bool.{Bool, _||_}
 use native.Mathlib.Omega.{arith}
-use lib.ListN.{length, take, drop}
+use lib.ListN.{take, drop}
 use borrow.Author.Needs.{needs}
 use Rattle.sheet.proofs.closing.some_edge.Statement.{statement}
 use Rattle.sheet.proofs.closing.some_edge.Tie as tie
 
 abbrev Inv-loop : tie.InvT-loop
-Inv-loop s edges i₀ left₀ i left = (left ≤ left₀) × (i + left ≡ i₀ + left₀) × (someEdge s (take left (drop i edges)) ≡ someEdge s (take left₀ (drop i₀ edges)))
+Inv-loop numbers s i₀ left₀ i left = (t : Table) → Packed t numbers → someEdge s (take left (drop i (t .edges))) ≡ someEdge s (take left₀ (drop i₀ (t .edges)))
 
 abbrev μ-loop : tie.MeasureT-loop
-μ-loop s edges i₀ left₀ i left = left
-
-cast-i : tie.Need-cast-i Inv-loop μ-loop
-cast-i c = omega arith
+μ-loop numbers s i₀ left₀ i left = left
 
 loop-holds : tie.Need-loop-holds Inv-loop μ-loop
-loop-holds c = (omega arith, omega arith, refl)
+loop-holds c = λ t P. refl
+
+cast-if1 : tie.Need-cast-if1 Inv-loop μ-loop
+cast-if1 c = search needs
 
 returns : tie.Need-returns Inv-loop μ-loop
-returns c =
-    let a = c .before .before .before .before .args in
+returns c = λ t P.
     let l = c .before .before .loop in
-    let e : length (a .t1) ≡ 256 = c .before .before .before .before .good .0 .1 .0 .1 in
-    edge-out (a .s) (l .left) (l .i) (a .t1) (omega arith) ∙ l .inv .2
+    edge-out (c .before .before .before .before .args .s) (l .left) (l .i) (t .edges) (omega (arith, P .edges-length)) ∙ l .inv t P
 
-mul-e : tie.Need-mul-e Inv-loop μ-loop
-mul-e c = omega arith
-
-array-copy-out-e : tie.Need-array-copy-out-e Inv-loop μ-loop
-array-copy-out-e c = omega arith
+edge-at-requires : tie.Need-edge-at-requires Inv-loop μ-loop
+edge-at-requires c κs = search needs
 
 stands-on-requires : tie.Need-stands-on-requires Inv-loop μ-loop
 stands-on-requires c κs = search needs
 
 returns-2 : tie.Need-returns-2 Inv-loop μ-loop
-returns-2 c =
-    let a = c .before .before .before .before .before .before .before .args in
+returns-2 c = λ t P.
+    let s = c .before .before .before .before .before .before .before .args .s in
     let l = c .before .before .before .before .before .loop in
-    let e : length (a .t1) ≡ 256 = c .before .before .before .before .before .before .before .good .0 .1 .0 .1 in
-    ap (λ (b : Bool). b || someEdge (a .s) (take (l .left - 1) (drop (l .i + 1) (a .t1)))) (sym (c .if2 .taken) ∙ c .before .stands-on .ensures) ∙ sym (edge-on (a .s) (l .left) (l .i) (a .t1) (omega arith) (omega arith)) ∙ l .inv .2
+    let e = c .before .stands-on .ensures ∙ ap (standsOn s) (c .before .before .edge-at .ensures ∙ P .edge-is (l .i) (c .before .before .before .if1 .left)) in
+    ap (λ (b : Bool). b || someEdge s (take (l .left - 1) (drop (l .i + 1) (t .edges)))) (sym (c .if2 .taken) ∙ e) ∙ sym (edge-on s (l .left) (l .i) (t .edges) (omega arith) (omega (arith, P .edges-length))) ∙ l .inv t P
 
 add-i : tie.Need-add-i Inv-loop μ-loop
-add-i c = omega arith
+add-i c = search needs
 
 sub-left : tie.Need-sub-left Inv-loop μ-loop
-sub-left c = omega arith
+sub-left c = search needs
 
 loop-less : tie.Need-loop-less Inv-loop μ-loop
-loop-less c = omega arith
+loop-less c = search needs
 
 loop-again : tie.Need-loop-again Inv-loop μ-loop
-loop-again c =
-    let a = c .before .before .before .before .before .before .before .args in
+loop-again c = λ t P.
+    let s = c .before .before .before .before .before .before .before .args .s in
     let l = c .before .before .before .before .before .loop in
-    let e : length (a .t1) ≡ 256 = c .before .before .before .before .before .before .before .good .0 .1 .0 .1 in
-    (omega arith, omega arith, ap (λ (b : Bool). b || someEdge (a .s) (take (l .left - 1) (drop (l .i + 1) (a .t1)))) (sym (c .if2 .left) ∙ c .before .stands-on .ensures) ∙ sym (edge-on (a .s) (l .left) (l .i) (a .t1) (omega arith) (omega arith)) ∙ l .inv .2)
+    let e = c .before .stands-on .ensures ∙ ap (standsOn s) (c .before .before .edge-at .ensures ∙ P .edge-is (l .i) (c .before .before .before .if1 .left)) in
+    ap (λ (b : Bool). b || someEdge s (take (l .left - 1) (drop (l .i + 1) (t .edges)))) (sym (c .if2 .left) ∙ e) ∙ sym (edge-on s (l .left) (l .i) (t .edges) (omega arith) (omega (arith, P .edges-length))) ∙ l .inv t P
 
 returns-3 : tie.Need-returns-3 Inv-loop μ-loop
-returns-3 c =
-    let a = c .before .before .before .args in
-    let l = c .before .loop in
-    edge-end (a .s) (l .left) (l .i) (a .t1) (c .loop-test .left) ∙ l .inv .2
+returns-3 c = λ t P. let l = c .before .loop in edge-end (c .before .before .before .args .s) (l .left) (l .i) (t .edges) (c .loop-test .left) ∙ l .inv t P
 
 pub some-edge-spec : {M : Type 1} → statement M
 some-edge-spec =
@@ -73,11 +67,10 @@ some-edge-spec =
     (tie.spec
     Inv-loop
     μ-loop
-    cast-i
     loop-holds
+    cast-if1
     returns
-    mul-e
-    array-copy-out-e
+    edge-at-requires
     stands-on-requires
     returns-2
     add-i

@@ -1,81 +1,58 @@
 -- `whole_of` meets its contract: the automata passed are all whole. Assumes nothing.
-use Rattle.sheet.proofs.Closed.{whole-on, whole-here, whole-end}
+use Rattle.sheet.proofs.Lent.{wholeFrom, whole-next, whole-stop, whole-all}
 use Rattle.sheet.proofs.Asked.{yes-is, no-is}
-use Rattle.sheet.specs.Questions.{edgesOf, eachState, whole, wholeOf}
-use Rattle.aldlf.specs.declared.Automaton.{Automaton}
-use Rattle.aldlf.specs.Sheet.{noAutomaton}
+use Rattle.sheet.specs.Questions.{wholeOf}
+use Rattle.aldlf.specs.declared.Used.{Used}
+use Rattle.aldlf.specs.declared.Table.{Table}
+use Rattle.packing.specs.Packed.{Packed}
 use Prim.Native.Nat.{_+_, _-_, _≤_}
-use mathlib.Core.Path.{_≡_, ap, _∙_}
+use mathlib.Core.Path.{_≡_, sym, subst}
 use native.Mathlib.Omega.{arith}
-use lib.ListN.{length, getD, take, drop, length-map}
-use lib.Seq.{length-take-le, getD-take}
 use borrow.Author.Needs.{needs}
-use Rattle.sheet.specs.Questions.{whole, wholeOf}
-use Prim.Native.Nat.{_+_, _-_, _≤_}
-use mathlib.Core.Path.{_≡_}
-use lib.ListN.{take, drop}
 use Rattle.sheet.proofs.closing.whole_of.Statement.{statement}
 use Rattle.sheet.proofs.closing.whole_of.Tie as tie
 
--- `whole_of` meets its contract: the automata passed are all whole. Assumes nothing.
-
 abbrev Inv-loop : tie.InvT-loop
-Inv-loop t n edges m₀ m = (m ≤ t .used .automata) × (wholeOf t ≡ m + whole (t .edges) (drop m (take (t .used .automata) (t .automata))))
+Inv-loop numbers used m₀ m = (m ≤ used .automata) × ((t : Table) → Packed t numbers → wholeOf t ≡ m + wholeFrom t m)
 
 abbrev μ-loop : tie.MeasureT-loop
-μ-loop t n edges m₀ m = t .used .automata - m
+μ-loop numbers used m₀ m = used .automata - m
+
+used-in-requires : tie.Need-used-in-requires Inv-loop μ-loop
+used-in-requires c κs = search needs
 
 loop-holds : tie.Need-loop-holds Inv-loop μ-loop
-loop-holds c = omega arith
+loop-holds c = (omega arith, λ t P. omega arith)
 
-cast-i : tie.Need-cast-i Inv-loop μ-loop
-cast-i c = omega arith
-
-mul-x : tie.Need-mul-x Inv-loop μ-loop
-mul-x c = omega arith
-
-element-copy-out-x : tie.Need-element-copy-out-x Inv-loop μ-loop
-element-copy-out-x c = omega arith
+automaton-at-requires : tie.Need-automaton-at-requires Inv-loop μ-loop
+automaton-at-requires c κs = let f = subst (λ (v : Used). v .automata ≤ 16) (sym (c .before .before .before .used-in .ensures)) (c .before .before .before .before .before .pre .1) in (c .before .before .before .before .before .pre .0, omega (arith, f))
 
 each-state-requires : tie.Need-each-state-requires Inv-loop μ-loop
 each-state-requires c κs = search needs
 
 returns : tie.Need-returns Inv-loop μ-loop
-returns c =
-    let t = c .before .before .before .before .before .before .args .t1 in
-    let l = c .before .before .before .before .loop in
-    let e : length (t .automata) ≡ 16 = simp length-map at (c .before .before .before .before .before .before .good .0 .1 .1 .1 .0 .1 .0 .1) in
-    let k : length (take (t .used .automata) (t .automata)) ≡ t .used .automata = length-take-le (t .used .automata) (t .automata) (omega arith) in
-    let g : getD (take (t .used .automata) (t .automata)) (l .m) noAutomaton ≡ getD (t .automata) (l .m) noAutomaton = getD-take (t .used .automata) (t .automata) (l .m) noAutomaton (omega arith) in
-    let x = ap (λ (a : Automaton). eachState (edgesOf (t .edges) a) (a .states)) g in
-    let h = whole-here (t .edges) (take (t .used .automata) (t .automata)) (l .m) (omega arith) (x ∙ no-is (c .before .each-state .ensures) (c .if1 .taken)) in
-    omega arith
+returns c = let l = c .before .before .before .before .before .loop in
+    let u = c .before .before .before .before .before .before .used-in in
+    let f = subst (λ (v : Used). v .automata ≤ 16) (sym (u .ensures)) (c .before .before .before .before .before .before .before .before .pre .1) in
+    (λ t P. whole-stop P (u .ensures) (l .m) f (l .inv .1 t P) _ (c .before .before .before .if1 .taken) (c .before .before .automaton-at .ensures) (no-is (c .before .each-state .ensures t P) (c .if2 .taken)), omega (arith, f))
 
 add-m : tie.Need-add-m Inv-loop μ-loop
-add-m c = omega arith
+add-m c = search needs
 
 loop-less : tie.Need-loop-less Inv-loop μ-loop
-loop-less c = omega arith
+loop-less c = search needs
 
 loop-again : tie.Need-loop-again Inv-loop μ-loop
-loop-again c =
-    let t = c .before .before .before .before .before .before .args .t1 in
-    let l = c .before .before .before .before .loop in
-    let e : length (t .automata) ≡ 16 = simp length-map at (c .before .before .before .before .before .before .good .0 .1 .1 .1 .0 .1 .0 .1) in
-    let k : length (take (t .used .automata) (t .automata)) ≡ t .used .automata = length-take-le (t .used .automata) (t .automata) (omega arith) in
-    let g : getD (take (t .used .automata) (t .automata)) (l .m) noAutomaton ≡ getD (t .automata) (l .m) noAutomaton = getD-take (t .used .automata) (t .automata) (l .m) noAutomaton (omega arith) in
-    let x = ap (λ (a : Automaton). eachState (edgesOf (t .edges) a) (a .states)) g in
-    let h = whole-on (t .edges) (take (t .used .automata) (t .automata)) (l .m) (omega arith) (x ∙ yes-is (c .before .each-state .ensures) (c .if1 .left)) in
-    omega arith
+loop-again c = let l = c .before .before .before .before .before .loop in
+    let u = c .before .before .before .before .before .before .used-in in
+    let f = subst (λ (v : Used). v .automata ≤ 16) (sym (u .ensures)) (c .before .before .before .before .before .before .before .before .pre .1) in
+    (omega arith, λ t P. whole-next P (u .ensures) (l .m) f (l .inv .1 t P) _ (c .before .before .before .if1 .taken) (c .before .before .automaton-at .ensures) (yes-is (c .before .each-state .ensures t P) (c .if2 .left)))
 
 returns-2 : tie.Need-returns-2 Inv-loop μ-loop
-returns-2 c =
-    let t = c .before .before .before .args .t1 in
-    let l = c .before .loop in
-    let e : length (t .automata) ≡ 16 = simp length-map at (c .before .before .before .good .0 .1 .1 .1 .0 .1 .0 .1) in
-    let k : length (take (t .used .automata) (t .automata)) ≡ t .used .automata = length-take-le (t .used .automata) (t .automata) (omega arith) in
-    let h = whole-end (t .edges) (take (t .used .automata) (t .automata)) (l .m) (omega arith) in
-    omega arith
+returns-2 c = let l = c .before .before .loop in
+    let u = c .before .before .before .used-in in
+    let f = subst (λ (v : Used). v .automata ≤ 16) (sym (u .ensures)) (c .before .before .before .before .before .pre .1) in
+    (λ t P. whole-all P (u .ensures) (l .m) f (l .inv .1 t P) (c .if1 .left), omega (arith, f))
 
 pub whole-of-spec : {M : Type 1} → statement M
 whole-of-spec =
@@ -83,10 +60,9 @@ whole-of-spec =
     (tie.spec
     Inv-loop
     μ-loop
+    used-in-requires
     loop-holds
-    cast-i
-    mul-x
-    element-copy-out-x
+    automaton-at-requires
     each-state-requires
     returns
     add-m

@@ -1,25 +1,23 @@
 -- `all_owned` meets its contract. Assumes nothing.
-use Rattle.sheet.proofs.Fits.{edges-last}
-use Prim.Native.Nat.{_-_}
+use Rattle.sheet.proofs.Lent.{none-owned, last-owned}
+use Rattle.sheet.specs.Room.{CountsFit}
+use mathlib.Core.Path.{sym, subst}
 use native.Mathlib.Omega.{arith}
 use borrow.Author.Needs.{needs}
 use Rattle.sheet.proofs.given.all_owned.Statement.{statement}
 use Rattle.sheet.proofs.given.all_owned.Tie as tie
 
+used-in-requires : tie.Need-used-in-requires
+used-in-requires c κs = search needs
+
 returns : tie.Need-returns
-returns c = rw (c .if1 .taken)
+returns c = λ t P. none-owned P (c .before .before .before .used-in .ensures) (c .before .if1 .taken)
 
-sub-i : tie.Need-sub-i
-sub-i c = search needs
+sub-automaton-at : tie.Need-sub-automaton-at
+sub-automaton-at c = search needs
 
-cast-i : tie.Need-cast-i
-cast-i c = search needs
-
-mul-x : tie.Need-mul-x
-mul-x c = search needs
-
-element-copy-out-x : tie.Need-element-copy-out-x
-element-copy-out-x c = search needs
+automaton-at-requires : tie.Need-automaton-at-requires
+automaton-at-requires c κs = let f = subst CountsFit (sym (c .before .before .before .used-in .ensures)) (c .before .before .before .before .before .pre .1) in (c .before .before .before .before .before .pre .0, omega (arith, f .automata≤))
 
 edges-to-requires : tie.Need-edges-to-requires
 edges-to-requires c κs = search needs
@@ -28,19 +26,19 @@ cast-result : tie.Need-cast-result
 cast-result c = search needs
 
 returns-2 : tie.Need-returns-2
-returns-2 c =
-    let t = c .before .before .before .args .t1 in
-    rw (c .edges-to .ensures, edges-last (t .automata) (t .used .automata) (omega (arith, c .before .before .if1 .left)))
+returns-2 c = λ t P.
+    let u = c .before .before .before .before .before .before .used-in in
+    let f = subst CountsFit (sym (u .ensures)) (c .before .before .before .before .before .before .before .before .pre .1) in
+    last-owned P (u .ensures) _ _ (omega (arith, c .before .before .before .before .if1 .left)) (f .automata≤) (c .before .before .automaton-at .ensures) (c .before .edges-to .ensures)
 
 pub all-owned-spec : {M : Type 1} → statement M
 all-owned-spec =
     tie.close
     (tie.spec
+    used-in-requires
     returns
-    sub-i
-    cast-i
-    mul-x
-    element-copy-out-x
+    sub-automaton-at
+    automaton-at-requires
     edges-to-requires
     cast-result
     returns-2)

@@ -1,100 +1,105 @@
 -- `automata_fit` meets its contract: the automata passed all fit, and what stands before the next is known. Assumes nothing.
-use Rattle.sheet.proofs.Fits.{edges-next, nodes-next, head-end, no-head, by-edges}
-use Rattle.sheet.proofs.Asked.{yes-is, no-is}
-use Rattle.aldlf.specs.Sheet.{noAutomaton}
-use Prim.Native.Nat.{_-_, _≤_}
-use mathlib.Core.Bool.{true, false}
-use native.Mathlib.Nat.{le-trans}
-use lib.ListN.{getD}
-use Rattle.sheet.proofs.Fits.{edges-next, nodes-next, no-head, by-edges}
+use Rattle.sheet.proofs.Fits.{head-end}
+use Rattle.sheet.proofs.Lent.{automata-by, edges-passed, nodes-passed, head-no, edges-say}
 use Rattle.sheet.proofs.Each.{each-none, each-on, each-no}
 use Rattle.sheet.proofs.Asked.{yes-is, no-is}
-use Rattle.sheet.specs.Given.{edgesBefore, nodesBefore, automatonOk, automataFit}
-use Rattle.sheet.specs.Questions.{each}
-use Prim.Native.Nat.{_-_, _≤_}
-use mathlib.Core.Path.{_≡_, refl, ap, sym, _∙_}
+use Rattle.sheet.specs.Given.{edgesBefore, nodesBefore, automatonOk}
+use Rattle.sheet.specs.Questions.{plains, each}
+use Rattle.sheet.specs.Room.{CountsFit}
+use Rattle.aldlf.specs.declared.Table.{Table}
+use Rattle.packing.specs.Packed.{Packed}
+use Prim.Native.Nat.{_-_, _≤_, _<_}
+use mathlib.Core.Path.{_≡_, refl, ap, sym, subst, _∙_}
 use mathlib.Core.Bool.{true, false}
+use native.Mathlib.Nat.{le-trans}
 use native.Mathlib.Omega.{arith}
 use borrow.Author.Needs.{needs}
 use Rattle.sheet.proofs.given.automata_fit.Statement.{statement}
 use Rattle.sheet.proofs.given.automata_fit.Tie as tie
 
 abbrev Inv-loop : tie.InvT-loop
-Inv-loop t used edges p first₀ above₀ m₀ first above m = (m ≤ t .used .automata) × (first ≡ edgesBefore (t .automata) m) × (above ≡ nodesBefore (t .automata) m) × (each (automatonOk t) m ≡ true)
+Inv-loop numbers used p first₀ above₀ m₀ first above m = (m ≤ used .automata) × ((t : Table) → Packed t numbers → (first ≡ edgesBefore (t .automata) m) × (above ≡ nodesBefore (t .automata) m) × (each (automatonOk t) m ≡ true))
 
 abbrev μ-loop : tie.MeasureT-loop
-μ-loop t used edges p first₀ above₀ m₀ first above m = t .used .automata - m
+μ-loop numbers used p first₀ above₀ m₀ first above m = used .automata - m
+
+used-in-requires : tie.Need-used-in-requires Inv-loop μ-loop
+used-in-requires c κs = search needs
+
+lines-of-requires : tie.Need-lines-of-requires Inv-loop μ-loop
+lines-of-requires c κs = search needs
 
 plains-of-requires : tie.Need-plains-of-requires Inv-loop μ-loop
 plains-of-requires c κs = search needs
 
 loop-holds : tie.Need-loop-holds Inv-loop μ-loop
-loop-holds c = (omega arith, refl, refl, each-none (automatonOk (c .before .before .before .before .args .t1)))
+loop-holds c = (omega arith, λ t P. (refl, refl, each-none (automatonOk t)))
 
-cast-i : tie.Need-cast-i Inv-loop μ-loop
-cast-i c = omega arith
-
-mul-x : tie.Need-mul-x Inv-loop μ-loop
-mul-x c = omega arith
-
-element-copy-out-x : tie.Need-element-copy-out-x Inv-loop μ-loop
-element-copy-out-x c = omega arith
+automaton-at-requires : tie.Need-automaton-at-requires Inv-loop μ-loop
+automaton-at-requires c κs = let f = subst CountsFit (sym (c .before .before .before .before .before .used-in .ensures)) (c .before .before .before .before .before .before .before .pre .1) in (c .before .before .before .before .before .before .before .pre .0, omega (arith, f .automata≤))
 
 head-fits-requires : tie.Need-head-fits-requires Inv-loop μ-loop
 head-fits-requires c κs = search needs
 
 returns : tie.Need-returns Inv-loop μ-loop
-unfolding automataFit
-returns c =
-    let t = c .before .before .before .before .before .before .before .before .before .before .args .t1 in
+returns c = λ t P.
     let l = c .before .before .before .before .before .loop in
-    each-no (automatonOk t) (l .m) (t .used .automata) (omega arith) (no-head t (l .m) (l .first) (l .above) (l .inv .1) (l .inv .2) (no-is (c .before .head-fits .ensures) (c .if2 .taken)))
+    let u = c .before .before .before .before .before .before .before .before .used-in in
+    let f = subst CountsFit (sym (u .ensures)) (c .before .before .before .before .before .before .before .before .before .before .pre .1) in
+    let k = l .inv .1 t P in
+    let no = head-no P (u .ensures) (l .m) (l .first) (l .above) (omega (arith, f .automata≤)) (c .before .before .automaton-at .ensures) (k .0) (k .1) (no-is (c .before .head-fits .ensures) (c .if2 .taken)) in
+    automata-by P (u .ensures) (each-no (automatonOk t) (l .m) (u .result .automata) (omega arith) no)
 
 slice-aggregate-edges-fit : tie.Need-slice-aggregate-edges-fit Inv-loop μ-loop
-slice-aggregate-edges-fit c = omega arith
+slice-aggregate-edges-fit c = search needs
 
 edges-fit-requires : tie.Need-edges-fit-requires Inv-loop μ-loop
-edges-fit-requires c κs =
-    let t = c .before .before .before .before .before .before .before .before .before .before .before .args .t1 in
-    let l = c .before .before .before .before .before .before .loop in
-    let k = head-end (t .used) (l .first) (l .above) (getD (t .automata) (l .m) noAutomaton) (yes-is (c .before .before .head-fits .ensures) (c .before .if2 .left)) in
-    le-trans k (c .before .before .before .before .before .before .before .before .before .before .before .pre .edges≤)
+edges-fit-requires c κs = let l = c .before .before .before .before .before .before .loop in
+    let f = subst CountsFit (sym (c .before .before .before .before .before .before .before .before .before .used-in .ensures)) (c .before .before .before .before .before .before .before .before .before .before .before .pre .1) in
+    (c .before .before .before .before .before .before .before .before .before .before .before .pre .0, le-trans (head-end (c .before .before .before .before .before .before .before .before .before .used-in .result) (l .first) (l .above) (c .before .before .before .automaton-at .result) (yes-is (c .before .before .head-fits .ensures) (c .before .if2 .left))) (f .edges≤))
 
 returns-2 : tie.Need-returns-2 Inv-loop μ-loop
-unfolding automataFit
-returns-2 c =
-    let t = c .before .before .before .before .before .before .before .before .before .before .before .before .before .args .t1 in
+returns-2 c = λ t P.
     let l = c .before .before .before .before .before .before .before .before .loop in
-    let p = c .before .before .before .before .before .before .before .before .before .plains-of in
-    each-no (automatonOk t) (l .m) (t .used .automata) (omega arith) (by-edges t (l .m) (l .first) (l .above) (l .inv .1) (l .inv .2) (p .result) false (p .ensures) (yes-is (c .before .before .before .before .head-fits .ensures) (c .before .before .before .if2 .left)) (no-is (c .before .edges-fit .ensures) (c .if3 .taken)))
+    let u = c .before .before .before .before .before .before .before .before .before .before .before .used-in in
+    let f = subst CountsFit (sym (u .ensures)) (c .before .before .before .before .before .before .before .before .before .before .before .before .before .pre .1) in
+    let k = l .inv .1 t P in
+    let plain = c .before .before .before .before .before .before .before .before .before .plains-of .ensures ∙ ap plains (c .before .before .before .before .before .before .before .before .before .before .lines-of .ensures t P) in
+    let no = edges-say P (u .ensures) (l .m) (l .first) (l .above) (omega (arith, f .automata≤)) (c .before .before .before .before .before .automaton-at .ensures) (k .0) (k .1) _ false plain (yes-is (c .before .before .before .before .head-fits .ensures) (c .before .before .before .if2 .left)) (no-is (c .before .edges-fit .ensures t P) (c .if3 .taken)) in
+    automata-by P (u .ensures) (each-no (automatonOk t) (l .m) (u .result .automata) (omega arith) no)
 
 add-first : tie.Need-add-first Inv-loop μ-loop
-add-first c =
-    let t = c .before .before .before .before .before .before .before .before .before .before .before .before .before .before .args .t1 in
-    let l = c .before .before .before .before .before .before .before .before .before .loop in
-    let k = head-end (t .used) (l .first) (l .above) (getD (t .automata) (l .m) noAutomaton) (yes-is (c .before .before .before .before .before .head-fits .ensures) (c .before .before .before .before .if2 .left)) in
-    omega (arith, k, c .before .before .before .before .before .before .before .before .before .before .before .before .before .before .pre .edges≤)
+add-first c = let l = c .before .before .before .before .before .before .before .before .before .loop in
+    let f = subst CountsFit (sym (c .before .before .before .before .before .before .before .before .before .before .before .before .used-in .ensures)) (c .before .before .before .before .before .before .before .before .before .before .before .before .before .before .pre .1) in
+    omega (arith, head-end (c .before .before .before .before .before .before .before .before .before .before .before .before .used-in .result) (l .first) (l .above) (c .before .before .before .before .before .before .automaton-at .result) (yes-is (c .before .before .before .before .before .head-fits .ensures) (c .before .before .before .before .if2 .left)), f .edges≤)
 
 add-m : tie.Need-add-m Inv-loop μ-loop
-add-m c = omega arith
+add-m c = search needs
 
 loop-less : tie.Need-loop-less Inv-loop μ-loop
-loop-less c = omega arith
+loop-less c = search needs
 
 loop-again : tie.Need-loop-again Inv-loop μ-loop
-loop-again c =
-    let t = c .before .before .before .before .before .before .before .before .before .before .before .before .before .before .args .t1 in
-    let l = c .before .before .before .before .before .before .before .before .before .loop in
-    let p = c .before .before .before .before .before .before .before .before .before .before .plains-of in
-    (omega arith, edges-next (t .automata) (l .m), nodes-next (t .automata) (l .m), each-on (automatonOk t) (l .m) (l .inv .3) (by-edges t (l .m) (l .first) (l .above) (l .inv .1) (l .inv .2) (p .result) true (p .ensures) (yes-is (c .before .before .before .before .before .head-fits .ensures) (c .before .before .before .before .if2 .left)) (yes-is (c .before .before .edges-fit .ensures) (c .before .if3 .left))))
+loop-again c = (
+  omega arith,
+  λ t P.
+      let l = c .before .before .before .before .before .before .before .before .before .loop in
+      let u = c .before .before .before .before .before .before .before .before .before .before .before .before .used-in in
+      let f = subst CountsFit (sym (u .ensures)) (c .before .before .before .before .before .before .before .before .before .before .before .before .before .before .pre .1) in
+      let k = l .inv .1 t P in
+      let x = c .before .before .before .before .before .before .automaton-at in
+      let low : l .m < 16 = omega (arith, f .automata≤) in
+      let plain = c .before .before .before .before .before .before .before .before .before .before .plains-of .ensures ∙ ap plains (c .before .before .before .before .before .before .before .before .before .before .before .lines-of .ensures t P) in
+      let yes = edges-say P (u .ensures) (l .m) (l .first) (l .above) low (x .ensures) (k .0) (k .1) _ true plain (yes-is (c .before .before .before .before .before .head-fits .ensures) (c .before .before .before .before .if2 .left)) (yes-is (c .before .before .edges-fit .ensures t P) (c .before .if3 .left)) in
+      (edges-passed P (l .m) low (x .ensures), nodes-passed P (l .m) low (x .ensures), each-on (automatonOk t) (l .m) (k .2) yes),
+)
 
 returns-3 : tie.Need-returns-3 Inv-loop μ-loop
-unfolding automataFit
-returns-3 c =
-    let t = c .before .before .before .before .before .before .before .args .t1 in
+returns-3 c = λ t P.
     let l = c .before .before .loop in
-    let e : l .m ≡ t .used .automata = omega arith in
-    sym (l .inv .3) ∙ ap (each (automatonOk t)) e
+    let u = c .before .before .before .before .before .used-in in
+    let e : l .m ≡ u .result .automata = omega arith in
+    automata-by P (u .ensures) (sym (l .inv .1 t P .2) ∙ ap (each (automatonOk t)) e)
 
 pub automata-fit-spec : {M : Type 1} → statement M
 automata-fit-spec =
@@ -102,11 +107,11 @@ automata-fit-spec =
     (tie.spec
     Inv-loop
     μ-loop
+    used-in-requires
+    lines-of-requires
     plains-of-requires
     loop-holds
-    cast-i
-    mul-x
-    element-copy-out-x
+    automaton-at-requires
     head-fits-requires
     returns
     slice-aggregate-edges-fit

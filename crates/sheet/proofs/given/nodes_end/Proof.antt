@@ -3,6 +3,8 @@ use Rattle.sheet.proofs.Each.{fromOn, from-start, from-next, from-end}
 use Rattle.sheet.specs.Given.{isNoLine, nodesEnd}
 use Rattle.sheet.specs.Questions.{each}
 use Rattle.aldlf.specs.Sheet.{noLine}
+use Rattle.aldlf.specs.declared.Table.{Table}
+use Rattle.packing.specs.Packed.{Packed}
 use Prim.Native.Nat.{ℕ, _-_, _≤_, _<_}
 use mathlib.Core.Path.{_≡_, refl, sym, ap, ap₂, _∙_}
 use mathlib.Core.Bool.{Bool, true, _&&_}
@@ -13,24 +15,21 @@ use lib.ListN.{getD}
 use borrow.Author.Needs.{needs}
 use Rattle.sheet.proofs.given.nodes_end.Statement.{statement}
 use Rattle.sheet.proofs.given.nodes_end.Tie as tie
-use Rattle.sheet.proofs.given.nodes_end.Reads as reads
-use Rattle.sheet.proofs.given.nodes_end.Lts as lts
-use Rattle.sheet.proofs.given.is_no_line.Reads as is-no-line-reads
 
 abbrev Inv-loop : tie.InvT-loop
-Inv-loop n nodes all₀ i₀ all i = (n ≤ i) × (all ≡ each (fromOn (λ k. isNoLine (getD nodes k noLine)) n) i) × (64 < i → all ≡ true)
+Inv-loop numbers n all₀ i₀ all i = (n ≤ i) × (64 < i → all ≡ true) × ((t : Table) → Packed t numbers → all ≡ each (fromOn (λ k. isNoLine (getD (t .nodes) k noLine)) n) i)
 
 abbrev μ-loop : tie.MeasureT-loop
-μ-loop n nodes all₀ i₀ all i = 64 - i
+μ-loop numbers n all₀ i₀ all i = 64 - i
 
 loop-holds : tie.Need-loop-holds Inv-loop μ-loop
-loop-holds c = let z = from-start (λ k. isNoLine (getD (c .args .t1) k noLine)) (c .args .n) in (omega arith, sym z, λ _. refl)
+loop-holds c = (omega arith, λ _. refl, λ t P. sym (from-start (λ k. isNoLine (getD (t .nodes) k noLine)) (c .before .args .n)))
 
-mul-x : tie.Need-mul-x Inv-loop μ-loop
-mul-x c = search needs
+cast-loop : tie.Need-cast-loop Inv-loop μ-loop
+cast-loop c = search needs
 
-array-copy-out-x : tie.Need-array-copy-out-x Inv-loop μ-loop
-array-copy-out-x c = search needs
+line-at-requires : tie.Need-line-at-requires Inv-loop μ-loop
+line-at-requires c κs = search needs
 
 is-no-line-requires : tie.Need-is-no-line-requires Inv-loop μ-loop
 is-no-line-requires c κs = search needs
@@ -42,18 +41,22 @@ loop-less : tie.Need-loop-less Inv-loop μ-loop
 loop-less c = search needs
 
 loop-again : tie.Need-loop-again Inv-loop μ-loop
-loop-again c = let a = c .before .before .before .before .args in
-    let l = c .before .before .before .loop in
-    let g : ℕ → Bool = λ k. isNoLine (getD (a .t1) k noLine) in
-    let z = c .before .before .loop-test .taken in
-    (omega arith, ap₂ _&&_ (l .inv .1) (c .is-no-line .ensures) ∙ from-next g (a .n) (l .i) (l .inv .0), λ h. absurd (omega arith))
+loop-again c = (
+  omega arith,
+  λ h. absurd (omega arith),
+  λ t P.
+      let l = c .before .before .before .loop in
+      let e = c .before .line-at .ensures ∙ P .line-is (l .i) (c .before .before .loop-test .taken) in
+      ap₂ _&&_ (l .inv .2 t P) (c .is-no-line .ensures ∙ ap isNoLine e) ∙ from-next (λ k. isNoLine (getD (t .nodes) k noLine)) (c .before .before .before .before .before .args .n) (l .i) (l .inv .0),
+)
 
 returns : tie.Need-returns Inv-loop μ-loop
 unfolding nodesEnd
-returns c = let a = c .before .before .args in
+returns c = λ t P.
+    let n = c .before .before .before .args .n in
     let l = c .before .loop in
-    let g : ℕ → Bool = λ k. isNoLine (getD (a .t1) k noLine) in
-    ⊎-elim (λ e. l .inv .1 ∙ ap (each (fromOn g (a .n))) (sym e)) (λ h. l .inv .2 h ∙ from-end g (a .n) (l .i) 64 (omega arith) (sym (l .inv .1) ∙ l .inv .2 h)) (eq-or-lt-of-le (c .loop-test .left))
+    let g : ℕ → Bool = λ k. isNoLine (getD (t .nodes) k noLine) in
+    ⊎-elim (λ e. l .inv .2 t P ∙ ap (each (fromOn g n)) (sym e)) (λ h. l .inv .1 h ∙ from-end g n (l .i) 64 (omega arith) (sym (l .inv .2 t P) ∙ l .inv .1 h)) (eq-or-lt-of-le (c .loop-test .left))
 
 pub nodes-end-spec : {M : Type 1} → statement M
 nodes-end-spec =
@@ -62,8 +65,8 @@ nodes-end-spec =
     Inv-loop
     μ-loop
     loop-holds
-    mul-x
-    array-copy-out-x
+    cast-loop
+    line-at-requires
     is-no-line-requires
     add-i
     loop-less

@@ -1,81 +1,78 @@
 -- `nodes_fit` meets its contract: the nodes passed all fit. Assumes nothing.
-use Rattle.sheet.proofs.Fits.{fits-at}
+use Rattle.sheet.proofs.Lent.{node-read, nodes-by}
 use Rattle.sheet.proofs.Each.{each-none, each-on, each-no}
 use Rattle.sheet.proofs.Asked.{yes-is, no-is}
-use Rattle.aldlf.specs.Sheet.{noLine}
-use Prim.Native.Nat.{_-_, _≤_}
-use mathlib.Core.Path.{_≡_, ap, sym, _∙_}
-use mathlib.Core.Bool.{true}
-use lib.ListN.{getD}
-use borrow.Author.Needs.{needs}
-use Rattle.sheet.proofs.Each.{each-none}
-use Rattle.sheet.specs.Given.{nodeOk, nodesFit}
+use Rattle.sheet.specs.Given.{nodeOk}
 use Rattle.sheet.specs.Questions.{each}
+use Rattle.sheet.specs.Room.{CountsFit}
+use Rattle.aldlf.specs.declared.Table.{Table}
+use Rattle.packing.specs.Packed.{Packed}
 use Prim.Native.Nat.{_-_, _≤_}
-use mathlib.Core.Path.{_≡_, ap, sym, _∙_}
+use mathlib.Core.Path.{_≡_, ap, sym, subst, _∙_}
 use mathlib.Core.Bool.{true}
 use native.Mathlib.Omega.{arith}
+use borrow.Author.Needs.{needs}
 use Rattle.sheet.proofs.given.nodes_fit.Statement.{statement}
 use Rattle.sheet.proofs.given.nodes_fit.Tie as tie
 
--- `nodes_fit` meets its contract: the nodes passed all fit. Assumes nothing.
-
 abbrev Inv-loop : tie.InvT-loop
-Inv-loop t n i₀ i = (i ≤ t .used .nodes) × (each (nodeOk t) i ≡ true)
+Inv-loop numbers used i₀ i = (i ≤ used .nodes) × ((t : Table) → Packed t numbers → each (nodeOk t) i ≡ true)
 
 abbrev μ-loop : tie.MeasureT-loop
-μ-loop t n i₀ i = t .used .nodes - i
+μ-loop numbers used i₀ i = used .nodes - i
+
+used-in-requires : tie.Need-used-in-requires Inv-loop μ-loop
+used-in-requires c κs = search needs
 
 loop-holds : tie.Need-loop-holds Inv-loop μ-loop
-loop-holds c = (omega arith, each-none (nodeOk (c .args .t1)))
+loop-holds c = (omega arith, λ t P. each-none (nodeOk t))
 
-cast-k : tie.Need-cast-k Inv-loop μ-loop
-cast-k c = omega arith
+line-at-requires : tie.Need-line-at-requires Inv-loop μ-loop
+line-at-requires c κs = let f = subst CountsFit (sym (c .before .before .before .used-in .ensures)) (c .before .before .before .before .before .pre .1) in (c .before .before .before .before .before .pre .0, omega (arith, f .nodes≤))
 
-mul-x : tie.Need-mul-x Inv-loop μ-loop
-mul-x c = omega arith
+cast-automaton-at : tie.Need-cast-automaton-at Inv-loop μ-loop
+cast-automaton-at c = search needs
 
-element-copy-out-x : tie.Need-element-copy-out-x Inv-loop μ-loop
-element-copy-out-x c = omega arith
+rem-automaton-at : tie.Need-rem-automaton-at Inv-loop μ-loop
+rem-automaton-at c = search needs
 
-cast-m : tie.Need-cast-m Inv-loop μ-loop
-cast-m c = omega arith
-
-mul-y : tie.Need-mul-y Inv-loop μ-loop
-mul-y c = omega arith
-
-element-copy-out-y : tie.Need-element-copy-out-y Inv-loop μ-loop
-element-copy-out-y c = omega arith
+automaton-at-requires : tie.Need-automaton-at-requires Inv-loop μ-loop
+automaton-at-requires c κs = search needs
 
 node-fits-requires : tie.Need-node-fits-requires Inv-loop μ-loop
 node-fits-requires c κs = search needs
 
 returns : tie.Need-returns Inv-loop μ-loop
-unfolding nodesFit
-returns c =
-    let t = c .before .before .before .before .before .before .before .args .t1 in
-    let l = c .before .before .before .before .before .before .loop in
-    each-no (nodeOk t) (l .i) (t .used .nodes) (omega arith) (no-is (c .before .node-fits .ensures ∙ fits-at (t .used .automata) (t .automata) (l .i) (getD (t .nodes) (l .i) noLine) (c .before .before .before .before .before .before .before .pre .automata≤)) (c .if1 .taken))
+returns c = λ t P.
+    let l = c .before .before .before .before .before .before .before .loop in
+    let u = c .before .before .before .before .before .before .before .before .used-in in
+    let f = subst CountsFit (sym (u .ensures)) (c .before .before .before .before .before .before .before .before .before .before .pre .1) in
+    let e = node-read P (u .ensures) _ _ (l .i) (c .before .before .before .before .line-at .ensures) (c .before .before .automaton-at .ensures) (omega (arith, f .nodes≤)) (f .automata≤) in
+    nodes-by P (u .ensures) (each-no (nodeOk t) (l .i) (u .result .nodes) (omega arith) (no-is (c .before .node-fits .ensures ∙ e) (c .if2 .taken)))
 
 add-i : tie.Need-add-i Inv-loop μ-loop
-add-i c = omega arith
+add-i c = search needs
 
 loop-less : tie.Need-loop-less Inv-loop μ-loop
-loop-less c = omega arith
+loop-less c = search needs
 
 loop-again : tie.Need-loop-again Inv-loop μ-loop
-loop-again c =
-    let t = c .before .before .before .before .before .before .before .args .t1 in
-    let l = c .before .before .before .before .before .before .loop in
-    (omega arith, each-on (nodeOk t) (l .i) (l .inv .1) (yes-is (c .before .node-fits .ensures ∙ fits-at (t .used .automata) (t .automata) (l .i) (getD (t .nodes) (l .i) noLine) (c .before .before .before .before .before .before .before .pre .automata≤)) (c .if1 .left)))
+loop-again c = (
+  omega arith,
+  λ t P.
+      let l = c .before .before .before .before .before .before .before .loop in
+      let u = c .before .before .before .before .before .before .before .before .used-in in
+      let f = subst CountsFit (sym (u .ensures)) (c .before .before .before .before .before .before .before .before .before .before .pre .1) in
+      let e = node-read P (u .ensures) _ _ (l .i) (c .before .before .before .before .line-at .ensures) (c .before .before .automaton-at .ensures) (omega (arith, f .nodes≤)) (f .automata≤) in
+      each-on (nodeOk t) (l .i) (l .inv .1 t P) (yes-is (c .before .node-fits .ensures ∙ e) (c .if2 .left)),
+)
 
 returns-2 : tie.Need-returns-2 Inv-loop μ-loop
-unfolding nodesFit
-returns-2 c =
-    let t = c .before .before .args .t1 in
-    let l = c .before .loop in
-    let e : l .i ≡ t .used .nodes = omega arith in
-    sym (l .inv .1) ∙ ap (each (nodeOk t)) e
+returns-2 c = λ t P.
+    let l = c .before .before .loop in
+    let u = c .before .before .before .used-in in
+    let e : l .i ≡ u .result .nodes = omega arith in
+    nodes-by P (u .ensures) (sym (l .inv .1 t P) ∙ ap (each (nodeOk t)) e)
 
 pub nodes-fit-spec : {M : Type 1} → statement M
 nodes-fit-spec =
@@ -83,13 +80,12 @@ nodes-fit-spec =
     (tie.spec
     Inv-loop
     μ-loop
+    used-in-requires
     loop-holds
-    cast-k
-    mul-x
-    element-copy-out-x
-    cast-m
-    mul-y
-    element-copy-out-y
+    line-at-requires
+    cast-automaton-at
+    rem-automaton-at
+    automaton-at-requires
     node-fits-requires
     returns
     add-i
