@@ -4,7 +4,7 @@ mod logs;
 mod questions;
 
 use aldlf::Table;
-use judge::prepared::plain_of;
+use judge::lent::plain_of;
 use logs::judge_each;
 use packing::places::PLACES;
 use packing::writing::pack;
@@ -33,12 +33,12 @@ pub fn judge_logs(
     ensures { λ r. ⌜ batchEnds r (now (verdicts .exit)) (now (held .exit)) ≡ batchOutcome (wellFormed table) (sheetOf table) (now (words .entry)) (now (lengths .entry)) (now (verdicts .entry)) (now (held .entry)) ⌝ }
 {
     let n = words.len();
-    let a = asked(table, n, lengths, verdicts.len(), held.len());
+    let mut numbers = [0u32; PLACES];
+    pack(table, &mut numbers);
+    let a = asked(&numbers, n, lengths, verdicts.len(), held.len());
     if a.number != 0 {
         return a;
     }
-    let mut numbers = [0u32; PLACES];
-    pack(table, &mut numbers);
     let plain = plain_of(&numbers);
     judge_each(plain, &numbers, words, lengths, verdicts, held);
     a

@@ -1,6 +1,6 @@
 // The logs of a list judged, one after the other.
 use aldlf::Row;
-use judge::prepared::judge_log;
+use judge::lent::judge_log;
 ghost use mathlib.Core.Path.{_≡_};
 ghost use Prim.Native.Nat.{_≤_};
 ghost use lib.ListN.{length};

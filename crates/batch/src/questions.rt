@@ -1,8 +1,11 @@
 // The questions of judging a list of logs, in document 01's order.
 use super::BatchAnswer;
-use aldlf::Table;
 ghost use mathlib.Core.Path.{_≡_};
 ghost use Prim.Native.Nat.{_≤_};
+ghost use lib.ListN.{length};
+ghost use Rattle.aldlf.specs.declared.Table.{Table};
+ghost use Rattle.packing.specs.Numbers.{places};
+ghost use Rattle.packing.specs.Packed.{Packed};
 ghost use Rattle.sheet.specs.Given.{wellFormed};
 ghost use Rattle.batch.specs.Batch.{answerTo, fits, hasRoom, misfit, roomless};
 
@@ -11,15 +14,16 @@ const LOGS: usize = 65535;
 
 // Questions 31, 32 and 33 of a list, given how many words there are and how many places are lent for verdicts and counts.
 pub(crate) fn asked(
-    table: Table,
+    numbers: &[u32],
     words: usize,
     lengths: &[u16],
     verdicts: usize,
     held: usize,
 ) -> BatchAnswer
-    ensures { λ r. ⌜ r ≡ answerTo (wellFormed table) words (now (lengths .entry)) verdicts held ⌝ }
+    requires { ⌜ length (now numbers) ≡ places ⌝ }
+    ensures { λ r. ⌜ ((t : Table) → Packed t (now (numbers .entry)) → r ≡ answerTo (wellFormed t) words (now (lengths .entry)) verdicts held) ⌝ }
 {
-    if !sheet::is_given(table) {
+    if !sheet::is_given_packed(numbers) {
         return BatchAnswer { number: 31, log: 0 };
     }
     let m = first_misfit(words, lengths);

@@ -1,18 +1,44 @@
-// One table for many logs: lent as numbers, its plain row made once. A room of the checker: its other crates call it, users do not.
+// Judging by a table that is lent as numbers, made once for many logs or for what comes after judging. A room of the checker: its other crates call it, users do not.
+use super::Judged;
 use super::core::Part;
 use super::core::judge_core;
+use super::questions::whole_question;
 use super::rows::end_row;
 use aldlf::Row;
 use aldlf::Way;
 ghost use mathlib.Core.Path.{_≡_};
 ghost use mathlib.Core.List.{_++_};
 ghost use Prim.Native.Nat.{_≤_};
+ghost use lib.Dec.{eqb};
 ghost use lib.ListN.{length, drop};
 ghost use Rattle.aldlf.specs.Constants.{entryLimit};
 ghost use Rattle.aldlf.specs.Sheet.{sheetOf};
-ghost use Rattle.aldlf.specs.Outcomes.{logWords, heldIn, plainRow};
+ghost use Rattle.aldlf.specs.Outcomes.{logWords, heldIn, plainRow, wholeNumber, wholeOutcome};
 ghost use Rattle.aldlf.specs.declared.Table.{Table};
+ghost use Rattle.packing.specs.Packed.{Packed};
+ghost use Rattle.sheet.specs.Given.{wellFormed};
+ghost use Rattle.judge.specs.Answers.{wholeOf, isHeld};
 ghost use Rattle.judge.specs.Prepared.{Lent, Prepared};
+
+// Judges a whole log, as `judge` does.
+pub fn judge_lent(numbers: &[u32], log: &[u32], verdicts: &mut [u64]) -> Judged
+    requires { ⌜ ((t : Table) × Packed t (now numbers)) ⌝ }
+    ensures { λ r. ⌜ ((t : Table) → Packed t (now (numbers .entry)) → wholeOf r (now (verdicts .exit)) ≡ wholeOutcome (wellFormed t) (sheetOf t) (now (log .entry)) (now (verdicts .entry))) ⌝ }
+    ensures { λ r. ⌜ ((t : Table) → Packed t (now (numbers .entry)) → isHeld r ≡ eqb (wholeNumber (wellFormed t) (now (log .entry)) (now (verdicts .entry))) 0) ⌝ }
+{
+    let n = log.len();
+    let q = whole_question(numbers, n, verdicts.len());
+    if q != 0 {
+        return Judged::Refused(q);
+    }
+    let row = end_row(numbers);
+    let part = Part {
+        way: Way::Ahead,
+        row,
+    };
+    let a = judge_core(part, numbers, log, verdicts);
+    Judged::Held(a.held)
+}
 
 // The plain row of a table that some sheet gives.
 pub fn plain_of(numbers: &[u32]) -> Row

@@ -11,10 +11,10 @@ use lib.ListN.{drop, length}
 use mathlib.Core.List.{List, _++_}
 use mathlib.Core.Path.{_∙_, ap, subst, sym}
 use borrow.Author.Needs.{needs}
-use Rattle.judge.proofs.prepared.judge_log.Statement.{statement}
-use Rattle.judge.proofs.prepared.judge_log.Tie as tie
-use Rattle.judge.proofs.prepared.judge_log.Reads as reads
-use Rattle.judge.proofs.prepared.judge_log.Lts as lts
+use Rattle.judge.proofs.lent.judge_log.Statement.{statement}
+use Rattle.judge.proofs.lent.judge_log.Tie as tie
+use Rattle.judge.proofs.lent.judge_log.Reads as reads
+use Rattle.judge.proofs.lent.judge_log.Lts as lts
 use Rattle.judge.proofs.core.judge_core.Reads as judge-core-reads
 
 judge-core-requires : tie.Need-judge-core-requires
