@@ -1,8 +1,8 @@
 -- Question 31's checks in the terms of the code's branches: the node that a D or B line names, and what stands before an automaton.
 use Prim.Native.Nat.{ℕ, zero, suc, _+_, _-_, _%_, _^_, _≤_, _<_}
-use mathlib.Core.Path.{_≡_, ap}
+use mathlib.Core.Path.{_≡_, ap, subst}
 use mathlib.Core.List.{List}
-use mathlib.Core.Bool.{Bool, true, false, _&&_}
+use mathlib.Core.Bool.{Bool, true, false, not, _&&_}
 use mathlib.Core.Logic.{_⊎_, inl, inr}
 use native.Mathlib.Numerals.{add-one}
 use native.Mathlib.Nat.{mod-eq-of-lt, lt-of-lt-of-le}
@@ -20,6 +20,7 @@ use Rattle.sheet.specs.Questions.{plains, wholeOf}
 use Rattle.sheet.specs.Given.{nodeFits, headFits, edgesFit, edgesBefore, nodesBefore, automatonOk, sized, usedFits, nodesFit, automataFit, nodesEnd, automataEnd, edgesEnd, allOwned, wellFormed}
 use Rattle.sheet.specs.Room.{CountsFit}
 use Rattle.sheet.proofs.Bools.{both, split}
+use Rattle.sheet.proofs.Asked.{yes-is}
 
 -- where the line names no automaton of the table, it does not matter which one is looked at
 pub fits-at : (n : ℕ) (ms : List Automaton) (i : ℕ) (x : NodeLine) → n ≤ automatonLimit → nodeFits n (getD ms (x .a % automatonLimit) noAutomaton .before) i x ≡ nodeFits n (getD ms (x .a) noAutomaton .before) i x
@@ -77,6 +78,10 @@ counts-fit u h =
     let y = both (leb 1 (u .nodes) && leb (u .nodes) nodeLimit) (leb (u .automata) automatonLimit) (x .0) in
     let z = both (leb 1 (u .nodes)) (leb (u .nodes) nodeLimit) (y .0) in
     record { some = leb-true 1 (u .nodes) (z .0); nodes≤ = leb-true (u .nodes) nodeLimit (z .1); automata≤ = leb-true (u .automata) automatonLimit (y .1); edges≤ = leb-true (u .edges) edgeLimit (x .1) }
+
+-- the same of the counts that a table's numbers have, where those that were read pass
+pub counts-lent : {u v : Used} {b : Bool} → u ≡ v → b ≡ usedFits u → not b ≡ false → CountsFit v
+counts-lent {u} e h k = subst CountsFit e (counts-fit u (yes-is h k))
 
 -- the checks in their order, for a table whose arrays are as long as their types say and whose counts are u
 module _ (t : Table) (u : Used) (s : sized t ≡ true) (eu : u ≡ t .used) where

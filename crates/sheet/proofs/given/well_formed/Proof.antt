@@ -1,9 +1,7 @@
 -- `well_formed` meets its contract: the checks are asked in the definition's order. Assumes nothing.
-use Rattle.sheet.proofs.Fits.{counts-fit, no-counts, no-nodes, no-automata, by-ends}
+use Rattle.sheet.proofs.Fits.{counts-lent, no-counts, no-nodes, no-automata, by-ends}
 use Rattle.sheet.proofs.Lent.{sized-is, counts-are}
 use Rattle.sheet.proofs.Asked.{yes-is, no-is}
-use Rattle.sheet.specs.Room.{CountsFit}
-use mathlib.Core.Path.{subst}
 use borrow.Author.Needs.{needs}
 use Rattle.sheet.proofs.given.well_formed.Statement.{statement}
 use Rattle.sheet.proofs.given.well_formed.Tie as tie
@@ -18,13 +16,13 @@ returns : tie.Need-returns
 returns c = λ t P. no-counts t (c .before .before .used-in .result) (sized-is P) (counts-are P (c .before .before .used-in .ensures)) (no-is (c .before .used-fits .ensures) (c .if1 .taken))
 
 nodes-fit-requires : tie.Need-nodes-fit-requires
-nodes-fit-requires c κs = (c .before .before .before .before .pre, subst CountsFit (c .before .before .used-in .ensures) (counts-fit (c .before .before .used-in .result) (yes-is (c .before .used-fits .ensures) (c .if1 .left))))
+nodes-fit-requires c κs = (c .before .before .before .before .pre, counts-lent (c .before .before .used-in .ensures) (c .before .used-fits .ensures) (c .if1 .left))
 
 returns-2 : tie.Need-returns-2
 returns-2 c = λ t P. no-nodes t (c .before .before .before .before .used-in .result) (sized-is P) (counts-are P (c .before .before .before .before .used-in .ensures)) (yes-is (c .before .before .before .used-fits .ensures) (c .before .before .if1 .left)) (no-is (c .before .nodes-fit .ensures t P) (c .if2 .taken))
 
 automata-fit-requires : tie.Need-automata-fit-requires
-automata-fit-requires c κs = (c .before .before .before .before .before .before .pre, subst CountsFit (c .before .before .before .before .used-in .ensures) (counts-fit (c .before .before .before .before .used-in .result) (yes-is (c .before .before .before .used-fits .ensures) (c .before .before .if1 .left))))
+automata-fit-requires c κs = (c .before .before .before .before .before .before .pre, counts-lent (c .before .before .before .before .used-in .ensures) (c .before .before .before .used-fits .ensures) (c .before .before .if1 .left))
 
 returns-3 : tie.Need-returns-3
 returns-3 c = λ t P. no-automata t (c .before .before .before .before .before .before .used-in .result) (sized-is P) (counts-are P (c .before .before .before .before .before .before .used-in .ensures)) (yes-is (c .before .before .before .before .before .used-fits .ensures) (c .before .before .before .before .if1 .left)) (yes-is (c .before .before .before .nodes-fit .ensures t P) (c .before .before .if2 .left)) (no-is (c .before .automata-fit .ensures t P) (c .if3 .taken))
@@ -39,10 +37,10 @@ edges-end-requires : tie.Need-edges-end-requires
 edges-end-requires c κs = search needs
 
 all-owned-requires : tie.Need-all-owned-requires
-all-owned-requires c κs = (c .before .before .before .before .before .before .before .before .before .before .before .pre, subst CountsFit (c .before .before .before .before .before .before .before .before .before .used-in .ensures) (counts-fit (c .before .before .before .before .before .before .before .before .before .used-in .result) (yes-is (c .before .before .before .before .before .before .before .before .used-fits .ensures) (c .before .before .before .before .before .before .before .if1 .left))))
+all-owned-requires c κs = (c .before .before .before .before .before .before .before .before .before .before .before .pre, counts-lent (c .before .before .before .before .before .before .before .before .before .used-in .ensures) (c .before .before .before .before .before .before .before .before .used-fits .ensures) (c .before .before .before .before .before .before .before .if1 .left))
 
 whole-of-requires : tie.Need-whole-of-requires
-whole-of-requires c κs = (c .before .before .before .before .before .before .before .before .before .before .before .before .pre, (subst CountsFit (c .before .before .before .before .before .before .before .before .before .before .used-in .ensures) (counts-fit (c .before .before .before .before .before .before .before .before .before .before .used-in .result) (yes-is (c .before .before .before .before .before .before .before .before .before .used-fits .ensures) (c .before .before .before .before .before .before .before .before .if1 .left)))) .automata≤)
+whole-of-requires c κs = (c .before .before .before .before .before .before .before .before .before .before .before .before .pre, (counts-lent (c .before .before .before .before .before .before .before .before .before .before .used-in .ensures) (c .before .before .before .before .before .before .before .before .before .used-fits .ensures) (c .before .before .before .before .before .before .before .before .if1 .left)) .automata≤)
 
 returns-4 : tie.Need-returns-4
 returns-4 c = λ t P.
