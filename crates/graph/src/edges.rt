@@ -4,13 +4,15 @@ use aldlf::Automaton;
 use aldlf::Edge;
 use aldlf::Node;
 use aldlf::State;
-use aldlf::Table;
 use packing::pieces::packed_edge;
+use packing::places::edge_at;
 ghost use mathlib.Core.Path.{_≡_};
 ghost use Prim.Native.Nat.{ℕ, _+_, _%_, _≤_, _<_};
-ghost use lib.ListN.{length, getD};
+ghost use lib.ListN.{length};
 ghost use Rattle.aldlf.specs.Constants.{stateLimit, edgeLimit};
-ghost use Rattle.aldlf.specs.Sheet.{noEdge};
+ghost use Rattle.aldlf.specs.declared.Table.{Table};
+ghost use Rattle.packing.specs.Numbers.{places, lentEdge};
+ghost use Rattle.packing.specs.Packed.{Packed};
 ghost use Rattle.graph.specs.Graph.{at};
 ghost use Rattle.graph.specs.Arcs.{none, unpackedOf, intoOf, outOf, Arc, Linked, Chained};
 ghost use Rattle.graph.specs.Configurations.{EdgeFits};
@@ -90,16 +92,16 @@ fn link(x: Edge, e: u16, arcs: &mut [u64])
 }
 
 // Chain the edges of the automaton q, from the last one down, so that each chain rises. No chain has an edge yet.
-pub fn chain_edges(table: Table, q: Automaton, arcs: &mut [u64])
-    requires { ⌜ (q .first + q .count ≤ edgeLimit) × (288 ≤ length (now arcs)) × ((i : ℕ) → 256 ≤ i → i < 288 → at (now arcs) i ≡ none) ⌝ }
-    requires { ⌜ ((e : ℕ) → q .first ≤ e → e < q .first + q .count → EdgeFits stateLimit (getD (table .edges) e noEdge)) ⌝ }
-    ensures { λ _. ⌜ Chained (table .edges) (q .first) (q .first + q .count) (now (arcs .exit)) ⌝ }
+pub fn chain_edges(numbers: &[u32], q: Automaton, arcs: &mut [u64])
+    requires { ⌜ (length (now numbers) ≡ places) × (q .first + q .count ≤ edgeLimit) × (288 ≤ length (now arcs)) × ((i : ℕ) → 256 ≤ i → i < 288 → at (now arcs) i ≡ none) ⌝ }
+    requires { ⌜ ((e : ℕ) → q .first ≤ e → e < q .first + q .count → EdgeFits stateLimit (lentEdge (now numbers) e)) ⌝ }
+    ensures { λ _. ⌜ ((t : Table) → Packed t (now (numbers .entry)) → Chained (t .edges) (q .first) (q .first + q .count) (now (arcs .exit))) ⌝ }
 {
     let first = q.first;
     let mut e = q.first + q.count;
     while first < e {
         e -= 1;
-        let x = table.edges[e as usize];
+        let x = edge_at(numbers, e);
         link(x, e, arcs);
     }
 }

@@ -13,6 +13,7 @@ use Rattle.aldlf.specs.declared.Automaton.{Automaton}
 use Rattle.aldlf.specs.declared.Entry.{Entry}
 use Rattle.aldlf.specs.declared.NodeLine.{NodeLine}
 use Rattle.aldlf.specs.declared.Table.{Table}
+use Rattle.judge.specs.Prepared.{Lent}
 use Rattle.graph.specs.Graph.{Graph, far, at}
 use Rattle.graph.specs.Arcs.{Chained}
 use Rattle.graph.specs.Configurations.{graphOf, startOf, EdgeFits, Ready}
@@ -74,3 +75,8 @@ pub record LineFound (table : Table) (line : NodeLine) (words : List ℕ) (i : �
 pub record JudgedLog (table : Table) (words log : List ℕ) : Type 0 where
   pub fits : logFits log ≡ true
   pub words-are : words ≡ logWords (sheetOf table) log
+
+-- The same by a table that some sheet gives, lent as numbers.
+pub record LentLog (table : Table) (numbers words log : List ℕ) : Type 0 where
+  pub lent : Lent table numbers
+  pub judged : JudgedLog table words log
