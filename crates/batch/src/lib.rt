@@ -11,6 +11,8 @@ use packing::writing::pack;
 use questions::asked;
 ghost use mathlib.Core.Path.{_≡_};
 ghost use Rattle.aldlf.specs.Sheet.{sheetOf};
+ghost use Rattle.aldlf.specs.declared.Table.{Table};
+ghost use Rattle.packing.specs.Packed.{Packed};
 ghost use Rattle.sheet.specs.Given.{wellFormed};
 ghost use Rattle.batch.specs.Batch.{batchEnds, batchOutcome};
 
@@ -32,14 +34,29 @@ pub fn judge_logs(
 ) -> BatchAnswer
     ensures { λ r. ⌜ batchEnds r (now (verdicts .exit)) (now (held .exit)) ≡ batchOutcome (wellFormed table) (sheetOf table) (now (words .entry)) (now (lengths .entry)) (now (verdicts .entry)) (now (held .entry)) ⌝ }
 {
-    let n = words.len();
     let mut numbers = [0u32; PLACES];
     pack(table, &mut numbers);
-    let a = asked(&numbers, n, lengths, verdicts.len(), held.len());
+    logs_lent(&numbers, words, lengths, verdicts, held)
+}
+
+// The same by a table that is lent as numbers. A room of the checker: its other crates call it, users do not.
+pub fn logs_lent(
+    numbers: &[u32],
+    words: &[u32],
+    lengths: &[u16],
+    verdicts: &mut [u64],
+    held: &mut [u16],
+) -> BatchAnswer
+    requires { ⌜ ((t : Table) × Packed t (now numbers)) ⌝ }
+    ensures { λ r. ⌜ ((t : Table) → Packed t (now (numbers .entry))
+        → batchEnds r (now (verdicts .exit)) (now (held .exit)) ≡ batchOutcome (wellFormed t) (sheetOf t) (now (words .entry)) (now (lengths .entry)) (now (verdicts .entry)) (now (held .entry))) ⌝ }
+{
+    let n = words.len();
+    let a = asked(numbers, n, lengths, verdicts.len(), held.len());
     if a.number != 0 {
         return a;
     }
-    let plain = plain_of(&numbers);
-    judge_each(plain, &numbers, words, lengths, verdicts, held);
+    let plain = plain_of(numbers);
+    judge_each(plain, numbers, words, lengths, verdicts, held);
     a
 }

@@ -1,9 +1,12 @@
 // Judging by a table that is lent as numbers, made once for many logs or for what comes after judging. A room of the checker: its other crates call it, users do not.
 use super::Judged;
+use super::PartAnswer;
 use super::core::Part;
 use super::core::judge_core;
+use super::questions::part_question;
 use super::questions::whole_question;
 use super::rows::end_row;
+use super::rows::no_row;
 use aldlf::Row;
 use aldlf::Way;
 ghost use mathlib.Core.Path.{_≡_};
@@ -13,11 +16,11 @@ ghost use lib.Dec.{eqb};
 ghost use lib.ListN.{length, drop};
 ghost use Rattle.aldlf.specs.Constants.{entryLimit};
 ghost use Rattle.aldlf.specs.Sheet.{sheetOf};
-ghost use Rattle.aldlf.specs.Outcomes.{logWords, heldIn, plainRow, wholeNumber, wholeOutcome};
+ghost use Rattle.aldlf.specs.Outcomes.{logWords, heldIn, plainRow, wholeNumber, wholeOutcome, partOutcome};
 ghost use Rattle.aldlf.specs.declared.Table.{Table};
 ghost use Rattle.packing.specs.Packed.{Packed};
 ghost use Rattle.sheet.specs.Given.{wellFormed};
-ghost use Rattle.judge.specs.Answers.{wholeOf, isHeld};
+ghost use Rattle.judge.specs.Answers.{wholeOf, isHeld, partOf, plainAnswerOf};
 ghost use Rattle.judge.specs.Prepared.{Lent, Prepared};
 
 // Judges a whole log, as `judge` does.
@@ -38,6 +41,51 @@ pub fn judge_lent(numbers: &[u32], log: &[u32], verdicts: &mut [u64]) -> Judged
     };
     let a = judge_core(part, numbers, log, verdicts);
     Judged::Held(a.held)
+}
+
+// Judges a part, as `judge_part` does.
+pub fn part_lent(
+    numbers: &[u32],
+    way: Way,
+    row: Row,
+    words: &[u32],
+    verdicts: &mut [u64],
+) -> PartAnswer
+    requires { ⌜ ((t : Table) × Packed t (now numbers)) ⌝ }
+    ensures { λ r. ⌜ ((t : Table) → Packed t (now (numbers .entry)) → partOf r (now (verdicts .exit)) ≡ partOutcome (wellFormed t) way (sheetOf t) row (now (words .entry)) (now (verdicts .entry))) ⌝ }
+{
+    let n = words.len();
+    let q = part_question(numbers, way, n, verdicts.len());
+    if q != 0 {
+        return PartAnswer {
+            number: q,
+            row: no_row(),
+        };
+    }
+    let part = Part { way, row };
+    let a = judge_core(part, numbers, words, verdicts);
+    let out = a.row;
+    PartAnswer {
+        number: 0,
+        row: out,
+    }
+}
+
+// The plain row, as `plain_row` gives it.
+pub fn plain_row_lent(numbers: &[u32]) -> PartAnswer
+    requires { ⌜ ((t : Table) × Packed t (now numbers)) ⌝ }
+    ensures { λ r. ⌜ ((t : Table) → Packed t (now (numbers .entry)) → r ≡ plainAnswerOf t) ⌝ }
+{
+    if !sheet::is_given_packed(numbers) {
+        return PartAnswer {
+            number: 31,
+            row: no_row(),
+        };
+    }
+    PartAnswer {
+        number: 0,
+        row: end_row(numbers),
+    }
 }
 
 // The plain row of a table that some sheet gives.
