@@ -1,6 +1,6 @@
 pub mod Listed
 pub mod Packed
-pub mod Unpacked
+pub mod Cut
 pub mod Copied
 pub mod Crossing
 pub mod GivenTables

@@ -19,6 +19,12 @@ module _ {X : Type 0} where
   listed-length zero f = refl
   listed-length (suc n) f = ap suc (listed-length n (λ i. f (suc i)))
 
+  pub listed-at : (n : ℕ) (f : ℕ → X) (k : ℕ) (d : X) → k < n → getD (listed n f) k d ≡ f k
+  unfolding listed
+  listed-at zero f k d h = absurd (omega arith)
+  listed-at (suc n) f zero d h = refl
+  listed-at (suc n) f (suc k) d h = listed-at n (λ i. f (suc i)) k d (omega arith)
+
   pub listed-same : (n : ℕ) (f g : ℕ → X) → ((i : ℕ) → i < n → f i ≡ g i) → listed n f ≡ listed n g
   unfolding listed
   listed-same zero f g h = refl

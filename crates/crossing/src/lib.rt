@@ -1,5 +1,5 @@
 // A table as 1,315 numbers and a row as 64, and back: how they cross to C and Rust.
 // A room of the checker: its other crates call it, users do not (they call `exports`).
+pub mod lending;
 pub mod pack;
 pub mod rows;
-pub mod unpack;

@@ -6,14 +6,19 @@ use aldlf::Entry;
 use aldlf::Node;
 use aldlf::Way;
 use answer::code;
+use crossing::lending::lend_table;
 use crossing::pack::TABLE;
 use crossing::pack::put_table;
 use crossing::rows::put_row;
 use crossing::rows::row_of;
-use crossing::unpack::table_of;
 use joblog::LogAnswer;
 use judge::Judged;
+use judge::lent::judge_lent;
+use judge::lent::part_lent;
+use judge::lent::plain_row_lent;
+use packing::places::PLACES;
 use walk::WalkAnswer;
+use walk::lent::walk_lent;
 ghost use mathlib.Core.Path.{_≡_};
 ghost use Prim.Native.Nat.{min};
 ghost use Rattle.exports.specs.Answers.{outcome, sheetOutcome, logOutcome};
@@ -61,8 +66,9 @@ pub extern "C" fn rozsvelen_read_log(text: &[u8], words: &mut [u32]) -> u64
 pub extern "C" fn rozsvelen_judge(table: &[u16], log: &[u32], verdicts: &mut [u64]) -> u64
     ensures { λ r. ⌜ outcome r (now (verdicts .exit)) ≡ judgeOutcome (now (table .entry)) (now (log .entry)) (now (verdicts .entry)) ⌝ }
 {
-    let t = table_of(table);
-    let r = judge::judge(t, log, verdicts);
+    let mut numbers = [0u32; PLACES];
+    lend_table(table, &mut numbers);
+    let r = judge_lent(&numbers, log, verdicts);
     match r {
         Judged::Held(n) => code(0, 0, n),
         Judged::Refused(q) => code(q, 0, 0),
@@ -81,8 +87,9 @@ pub extern "C" fn rozsvelen_judge_logs(
 ) -> u64
     ensures { λ r. ⌜ listEnds r (now (verdicts .exit)) (now (held .exit)) ≡ judgeLogsOutcome (now (table .entry)) (now (words .entry)) (now (lengths .entry)) (now (verdicts .entry)) (now (held .entry)) ⌝ }
 {
-    let t = table_of(table);
-    let a = batch::judge_logs(t, words, lengths, verdicts, held);
+    let mut numbers = [0u32; PLACES];
+    lend_table(table, &mut numbers);
+    let a = batch::logs_lent(&numbers, words, lengths, verdicts, held);
     code(a.number, a.log, 0)
 }
 
@@ -94,8 +101,9 @@ pub extern "C" fn rozsvelen_plain_row(table: &[u16], row: &mut [u16]) -> u64
     if row.len() != aldlf::NODES {
         return code(LENGTH, 0, 0);
     }
-    let t = table_of(table);
-    let start = judge::plain_row(t);
+    let mut numbers = [0u32; PLACES];
+    lend_table(table, &mut numbers);
+    let start = plain_row_lent(&numbers);
     if start.number != 0 {
         return code(start.number, 0, 0);
     }
@@ -122,10 +130,11 @@ pub extern "C" fn rozsvelen_judge_part(
     if !is_way(way) {
         return code(WAY, 0, 0);
     }
-    let t = table_of(table);
+    let mut numbers = [0u32; PLACES];
+    lend_table(table, &mut numbers);
     let w = way_of(way);
     let given = row_of(row);
-    let p = judge::judge_part(t, w, given, words, verdicts);
+    let p = part_lent(&numbers, w, given, words, verdicts);
     if p.number != 0 {
         return code(p.number, 0, 0);
     }
@@ -163,8 +172,9 @@ pub extern "C" fn rozsvelen_walk(
 ) -> u64
     ensures { λ r. ⌜ outcome r (now (edges .exit)) ≡ walkShown (now (table .entry)) (now (log .entry)) node entry (now (edges .entry)) ⌝ }
 {
-    let t = table_of(table);
-    let r = walk::walk(t, log, node_of(node), entry_of(entry), edges);
+    let mut numbers = [0u32; PLACES];
+    lend_table(table, &mut numbers);
+    let r = walk_lent(&numbers, log, node_of(node), entry_of(entry), edges);
     match r {
         WalkAnswer::Shown(n) => code(0, 0, n),
         WalkAnswer::Refused(q) => code(q, 0, 0),

@@ -1,5 +1,6 @@
 -- `rozsvelen_judge_part` meets its contract: questions 35 and 43, then the part's own answer, then its row. Assumes nothing.
-use mathlib.Core.Path.{sym, _∙_}
+use Rattle.crossing.specs.Numbers.{tableOf}
+use mathlib.Core.Path.{refl, sym, _∙_}
 use borrow.Author.Tests.{not-true, not-false}
 use denote.Ref.{now}
 use Rattle.exports.proofs.Judging.{part-short, part-no-way, part-refused, part-judged}
@@ -27,8 +28,11 @@ returns-2 c =
     let y = c .before .before .is-way in
     part-no-way (now (a .table)) (a .way) (now (a .row)) (now (a .words)) (now (a .verdicts)) _ (c .before .before .before .if1 .left) (sym (y .ensures) ∙ not-true _ (c .before .if2 .taken)) (c .code2 .ensures)
 
-table-of-requires : tie.Need-table-of-requires
-table-of-requires c κs = search needs
+slice-aggregate-lend-table : tie.Need-slice-aggregate-lend-table
+slice-aggregate-lend-table c = search needs
+
+lend-table-requires : tie.Need-lend-table-requires
+lend-table-requires c κs = search needs
 
 way-of-requires : tie.Need-way-of-requires
 way-of-requires c κs = search needs
@@ -36,8 +40,11 @@ way-of-requires c κs = search needs
 row-of-requires : tie.Need-row-of-requires
 row-of-requires c κs = search needs
 
-judge-part-requires : tie.Need-judge-part-requires
-judge-part-requires c κs = search needs
+slice-aggregate-part-lent : tie.Need-slice-aggregate-part-lent
+slice-aggregate-part-lent c = search needs
+
+part-lent-requires : tie.Need-part-lent-requires
+part-lent-requires c κs = search needs
 
 code-requires-3 : tie.Need-code-requires-3
 code-requires-3 c κs = search needs
@@ -50,13 +57,12 @@ same-length-2 c = search needs
 
 returns-3 : tie.Need-returns-3
 returns-3 c =
-    let a = c .before .before .before .before .before .before .before .before .before .before .before .before .before .before .before .before .before .before .args in
-    let n = c .before .before .before .before .before .before .before .before .before .before .before .before .is-way in
-    let t = c .before .before .before .before .before .before .before .before .before .before .table-of in
-    let y = c .before .before .before .before .before .before .before .before .before .way-of in
-    let o = c .before .before .before .before .before .before .before .row-of in
-    let p = c .before .before .before .before .before .judge-part in
-    part-refused (now (a .table)) (a .way) (now (a .row)) (now (a .words)) (now (a .verdicts)) (t .result) (y .result) (o .result) (p .result) _ _ (c .before .before .before .before .before .before .before .before .before .before .before .before .before .if1 .left) (sym (n .ensures) ∙ not-false _ (c .before .before .before .before .before .before .before .before .before .before .before .if2 .left)) (t .ensures) (y .ensures) (o .ensures) (p .ensures) (c .code3 .ensures) (c .before .if3 .taken)
+    let a = c .before .before .before .before .before .before .before .before .before .before .before .before .before .before .before .before .before .before .before .before .before .args in
+    let t = tableOf (now (a .table)) in
+    let y = c .before .before .before .before .before .before .before .before .before .before .way-of in
+    let o = c .before .before .before .before .before .before .before .before .row-of in
+    let p = c .before .before .before .before .before .part-lent in
+    part-refused (now (a .table)) (a .way) (now (a .row)) (now (a .words)) (now (a .verdicts)) t (y .result) (o .result) (p .result) _ _ (c .before .before .before .before .before .before .before .before .before .before .before .before .before .before .before .before .if1 .left) (sym (c .before .before .before .before .before .before .before .before .before .before .before .before .before .before .before .is-way .ensures) ∙ not-false _ (c .before .before .before .before .before .before .before .before .before .before .before .before .before .before .if2 .left)) refl (y .ensures) (o .ensures) (p .ensures t (c .before .before .before .before .before .before .before .before .before .before .before .before .lend-table .ensures)) (c .code3 .ensures) (c .before .if3 .taken)
 
 put-row-requires : tie.Need-put-row-requires
 put-row-requires c κs = search needs
@@ -72,14 +78,12 @@ same-length-4 c = search needs
 
 returns-4 : tie.Need-returns-4
 returns-4 c =
-    let a = c .before .before .before .before .before .before .before .before .before .before .before .before .before .before .before .before .before .before .before .before .before .before .before .args in
-    let n = c .before .before .before .before .before .before .before .before .before .before .before .before .before .before .before .before .before .is-way in
-    let t = c .before .before .before .before .before .before .before .before .before .before .before .before .before .before .before .table-of in
-    let y = c .before .before .before .before .before .before .before .before .before .before .before .before .before .before .way-of in
-    let o = c .before .before .before .before .before .before .before .before .before .before .before .before .row-of in
-    let p = c .before .before .before .before .before .before .before .before .before .before .judge-part in
-    let w = c .before .before .before .put-row in
-    part-judged (now (a .table)) (a .way) (now (a .row)) (now (a .words)) (now (a .verdicts)) (t .result) (y .result) (o .result) (p .result) _ _ (c .before .before .before .before .before .before .before .before .before .before .before .before .before .before .before .before .before .before .if1 .left) (sym (n .ensures) ∙ not-false _ (c .before .before .before .before .before .before .before .before .before .before .before .before .before .before .before .before .if2 .left)) (t .ensures) (y .ensures) (o .ensures) (p .ensures) (c .code4 .ensures) _ (c .before .before .before .before .before .before .if3 .left) (w .ensures)
+    let a = c .before .before .before .before .before .before .before .before .before .before .before .before .before .before .before .before .before .before .before .before .before .before .before .before .before .before .args in
+    let t = tableOf (now (a .table)) in
+    let y = c .before .before .before .before .before .before .before .before .before .before .before .before .before .before .before .way-of in
+    let o = c .before .before .before .before .before .before .before .before .before .before .before .before .before .row-of in
+    let p = c .before .before .before .before .before .before .before .before .before .before .part-lent in
+    part-judged (now (a .table)) (a .way) (now (a .row)) (now (a .words)) (now (a .verdicts)) t (y .result) (o .result) (p .result) _ _ (c .before .before .before .before .before .before .before .before .before .before .before .before .before .before .before .before .before .before .before .before .before .if1 .left) (sym (c .before .before .before .before .before .before .before .before .before .before .before .before .before .before .before .before .before .before .before .before .is-way .ensures) ∙ not-false _ (c .before .before .before .before .before .before .before .before .before .before .before .before .before .before .before .before .before .before .before .if2 .left)) refl (y .ensures) (o .ensures) (p .ensures t (c .before .before .before .before .before .before .before .before .before .before .before .before .before .before .before .before .before .lend-table .ensures)) (c .code4 .ensures) _ (c .before .before .before .before .before .before .if3 .left) (c .before .before .before .put-row .ensures)
 
 pub rozsvelen-judge-part-spec : {M : Type 1} → statement M
 rozsvelen-judge-part-spec =
@@ -90,10 +94,12 @@ rozsvelen-judge-part-spec =
     is-way-requires
     code-requires-2
     returns-2
-    table-of-requires
+    slice-aggregate-lend-table
+    lend-table-requires
     way-of-requires
     row-of-requires
-    judge-part-requires
+    slice-aggregate-part-lent
+    part-lent-requires
     code-requires-3
     same-length
     same-length-2
