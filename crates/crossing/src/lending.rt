@@ -7,6 +7,11 @@ use super::pack::EDGES_PLACE;
 use super::pack::LINE;
 use super::pack::TABLE;
 use super::pack::USED_PLACE;
+use packing::places::BEFORE;
+use packing::places::HEADS;
+use packing::places::LINES;
+use packing::places::RANGES;
+use packing::places::USED;
 ghost use mathlib.Core.Path.{_≡_};
 ghost use Prim.Native.Nat.{ℕ, _+_, _*_, _%_, _≤_, _<_};
 ghost use lib.ListN.{length, getD};
@@ -20,17 +25,6 @@ ghost use Rattle.crossing.specs.Steps.{edgeBytes, lineCut, automatonCut,
 
 // How many bytes the edges take.
 const EDGE_BYTES: usize = 1024;
-
-// Where the node lines, the three numbers of the automata and the counts start in lent numbers.
-const LINES: usize = 256;
-
-const HEADS: usize = 320;
-
-const RANGES: usize = 336;
-
-const BEFORE: usize = 352;
-
-const USED: usize = 368;
 
 // The table that the numbers give, as lent numbers; all zeros where they are not as many as a table's, or one is too large for its field.
 pub fn lend_table(xs: &[u16], numbers: &mut [u32])

@@ -13,17 +13,18 @@ ghost use lib.ListN.{length};
 ghost use Rattle.aldlf.specs.Constants.{nodeLimit, automatonLimit, edgeLimit};
 ghost use Rattle.packing.specs.Numbers.{places, lentEdge, lentLine, lentAutomaton, lentUsed};
 
+// How many numbers there are, and where those of the node lines, of the automata and of the counts start.
 pub const PLACES: usize = 371;
 
-pub(crate) const LINES: usize = 256;
+pub const LINES: usize = 256;
 
-pub(crate) const HEADS: usize = 320;
+pub const HEADS: usize = 320;
 
-pub(crate) const RANGES: usize = 336;
+pub const RANGES: usize = 336;
 
-pub(crate) const BEFORE: usize = 352;
+pub const BEFORE: usize = 352;
 
-pub(crate) const USED: usize = 368;
+pub const USED: usize = 368;
 
 // Edge e.
 pub fn edge_at(numbers: &[u32], e: u16) -> Edge

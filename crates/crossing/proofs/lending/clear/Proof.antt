@@ -7,7 +7,7 @@ use denote.Ref.{now}
 use lib.ListN.{length, length-set}
 use mathlib.Core.Path.{_∙_, _≡_, refl, subst}
 use native.Mathlib.Omega.{arith}
-use Rattle.crossing.proofs.Cut.{put-at, zeros-packed}
+use Rattle.crossing.proofs.Lent.{put-at, zeros-packed}
 use Rattle.crossing.proofs.lending.clear.Statement.{statement}
 use Rattle.crossing.proofs.lending.clear.Tie as tie
 

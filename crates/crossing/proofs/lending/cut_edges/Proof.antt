@@ -1,6 +1,6 @@
 -- `cut_edges` meets its contract: the bytes passed are cut, and it is known whether they fit. Assumes nothing.
 use Prim.Native.Nat.{ℕ, _-_, _%_}
-use Rattle.crossing.proofs.Cut.{Lent, lent-none, lent-next, lent-all, edge-byte, edges-cut}
+use Rattle.crossing.proofs.Lent.{Lent, lent-none, lent-next, lent-all, edge-byte, edges-cut}
 use Rattle.crossing.specs.Numbers.{isByte}
 use Rattle.crossing.specs.Steps.{edgeBytes}
 use borrow.Author.Needs.{needs}

@@ -1,6 +1,6 @@
 -- `lend_automata` meets its contract: those passed stand in their places, and it is known whether they fit. Assumes nothing.
 use Prim.Native.Nat.{_-_}
-use Rattle.crossing.proofs.Cut.{HeadsLent, heads-lent-none, heads-lent-next, heads-lent-all}
+use Rattle.crossing.proofs.Lent.{HeadsLent, heads-lent-none, heads-lent-next, heads-lent-all}
 use borrow.Author.Needs.{needs}
 use denote.Ref.{now}
 use Rattle.crossing.proofs.lending.lend_automata.Statement.{statement}

@@ -1,5 +1,5 @@
 -- `lend_edges` meets its contract: the numbers are those of the bytes, which are those of the edges, cut. Assumes nothing.
-use Rattle.crossing.proofs.Cut.{edges-put}
+use Rattle.crossing.proofs.Lent.{edges-put}
 use denote.Ref.{now}
 use borrow.Author.Needs.{needs}
 use Rattle.crossing.proofs.lending.lend_edges.Statement.{statement}

@@ -1,5 +1,6 @@
 -- `lend_fields` meets its contract: four runs of stores, one after the other. Assumes nothing.
-use Rattle.crossing.proofs.Cut.{fields-fit, fields-packed}
+use Rattle.crossing.proofs.Cut.{fields-fit}
+use Rattle.crossing.proofs.Lent.{fields-packed}
 use denote.Ref.{now}
 use borrow.Author.Needs.{needs}
 use Rattle.crossing.proofs.lending.lend_fields.Statement.{statement}

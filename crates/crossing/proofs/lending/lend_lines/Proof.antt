@@ -2,7 +2,7 @@
 use Prim.Native.Nat.{_+_, _*_, _-_}
 use Rattle.aldlf.specs.Constants.{nodeLimit}
 use Rattle.aldlf.specs.Sheet.{noLine}
-use Rattle.crossing.proofs.Cut.{Lent, lent-none, lent-next, lent-all}
+use Rattle.crossing.proofs.Lent.{Lent, lent-none, lent-next, lent-all}
 use Rattle.crossing.specs.Numbers.{lineSize, lineAt, lineFits}
 use Rattle.crossing.specs.Steps.{lineCut}
 use Rattle.packing.specs.Numbers.{lineIn}

@@ -1,6 +1,6 @@
 -- `put_edges` meets its contract: those passed stand in their places. Assumes nothing.
 use Prim.Native.Nat.{ℕ, _*_, _-_, _≤_}
-use Rattle.crossing.proofs.Cut.{put-at}
+use Rattle.crossing.proofs.Lent.{put-at}
 use Rattle.crossing.specs.Numbers.{edgeSize, edgeAt}
 use Rattle.packing.proofs.PlaceLaws.{put-none}
 use Rattle.packing.specs.Numbers.{edgeIn}
