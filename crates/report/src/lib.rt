@@ -1,19 +1,25 @@
 // The printed page as bytes: the sheet is read, then the log, then the log is judged, then the rule's walk is shown.
 use aldlf::Entry;
 use aldlf::Node;
-use aldlf::Table;
 use appending::put_bytes;
 use joblog::LogAnswer;
 use judge::Judged;
+use judge::lent::judge_lent;
 use lines::put_no_walk;
 use lines::put_refusal;
 use lines::put_verdicts;
 use lines::put_walk;
+use packing::places::PLACES;
+use packing::places::used_in;
+use packing::writing::pack;
 use walk::WalkAnswer;
+use walk::lent::walk_lent;
 ghost use mathlib.Core.Path.{_≡_};
 ghost use Prim.Native.Nat.{_<_};
 ghost use lib.ListN.{length};
 ghost use Rattle.aldlf.specs.Constants.{entryLimit};
+ghost use Rattle.aldlf.specs.declared.Table.{Table};
+ghost use Rattle.packing.specs.Packed.{Packed};
 ghost use Rattle.joblog.specs.Log.{readLog};
 ghost use Rattle.report.specs.Page.{ruleOf, refusedWalk, walkPage, tablePage, logPage, pageOf, printedOf, placed, pageOutcome};
 ghost use Rattle.appending.specs.Appending.{Stored, Appends};
@@ -99,43 +105,48 @@ fn put_page(out: &mut [u8], rules: &[u8], steps: &[u8]) -> usize
         return put_refusal(out, 0, s.number, s.line as usize);
     }
     let t = s.table;
-    put_log_page(out, t, steps)
+    let mut numbers = [0u32; PLACES];
+    pack(t, &mut numbers);
+    put_log_page(out, &numbers, steps)
 }
 
-// The page of a table and a log's text.
-fn put_log_page(out: &mut [u8], table: Table, steps: &[u8]) -> usize
-    ensures { λ r. ⌜ Appends (logPage table (readLog (now (steps .entry)) entryLimit)) (now (out .entry)) 0 (now (out .exit)) r ⌝ }
+// The page of a table, which is lent as numbers, and a log's text.
+fn put_log_page(out: &mut [u8], numbers: &[u32], steps: &[u8]) -> usize
+    requires { ⌜ ((t : Table) × Packed t (now numbers)) ⌝ }
+    ensures { λ r. ⌜ ((t : Table) → Packed t (now (numbers .entry)) → Appends (logPage t (readLog (now (steps .entry)) entryLimit)) (now (out .entry)) 0 (now (out .exit)) r) ⌝ }
 {
     let mut words = [0u32; aldlf::ENTRIES];
     let a = joblog::read_log(steps, &mut words);
     match a {
-        LogAnswer::Read(n) => put_table_page(out, table, &words[..n]),
+        LogAnswer::Read(n) => put_table_page(out, numbers, &words[..n]),
         LogAnswer::Refused(number, line) => put_refusal(out, 0, number, line),
     }
 }
 
 // The page of a table and a log.
-fn put_table_page(out: &mut [u8], table: Table, log: &[u32]) -> usize
-    ensures { λ r. ⌜ Appends (tablePage table (now (log .entry))) (now (out .entry)) 0 (now (out .exit)) r ⌝ }
+fn put_table_page(out: &mut [u8], numbers: &[u32], log: &[u32]) -> usize
+    requires { ⌜ ((t : Table) × Packed t (now numbers)) ⌝ }
+    ensures { λ r. ⌜ ((t : Table) → Packed t (now (numbers .entry)) → Appends (tablePage t (now (log .entry))) (now (out .entry)) 0 (now (out .exit)) r) ⌝ }
 {
     let mut verdicts = [0u64; aldlf::ENTRIES];
     let n = log.len();
-    let j = judge::judge(table, log, &mut verdicts);
+    let j = judge_lent(numbers, log, &mut verdicts);
     match j {
         Judged::Held(held) => {
-            let rule = rule_of(table);
+            let rule = rule_of(numbers);
             let next = put_verdicts(out, 0, &verdicts[..n], rule, held);
-            put_walk_page(out, next, table, log)
+            put_walk_page(out, next, numbers, log)
         }
         Judged::Refused(number) => put_refusal(out, 0, number, 0),
     }
 }
 
 // The last node.
-fn rule_of(table: Table) -> Node
-    ensures { λ r. ⌜ r .0 ≡ ruleOf table ⌝ }
+fn rule_of(numbers: &[u32]) -> Node
+    requires { ⌜ ((t : Table) × Packed t (now numbers)) ⌝ }
+    ensures { λ r. ⌜ ((t : Table) → Packed t (now (numbers .entry)) → r .0 ≡ ruleOf t) ⌝ }
 {
-    let n = table.used.nodes;
+    let n = used_in(numbers).nodes;
     if n == 0 {
         return Node(0);
     }
@@ -143,12 +154,13 @@ fn rule_of(table: Table) -> Node
 }
 
 // The line of the rule's walk at entry 0.
-fn put_walk_page(out: &mut [u8], at: usize, table: Table, log: &[u32]) -> usize
-    ensures { λ r. ⌜ Appends (walkPage table (now (log .entry))) (now (out .entry)) at (now (out .exit)) r ⌝ }
+fn put_walk_page(out: &mut [u8], at: usize, numbers: &[u32], log: &[u32]) -> usize
+    requires { ⌜ ((t : Table) × Packed t (now numbers)) ⌝ }
+    ensures { λ r. ⌜ ((t : Table) → Packed t (now (numbers .entry)) → Appends (walkPage t (now (log .entry))) (now (out .entry)) at (now (out .exit)) r) ⌝ }
 {
     let mut edges = [0u16; WALK];
-    let rule = rule_of(table);
-    let w = walk::walk(table, log, rule, Entry(0), &mut edges);
+    let rule = rule_of(numbers);
+    let w = walk_lent(numbers, log, rule, Entry(0), &mut edges);
     match w {
         WalkAnswer::Shown(n) => put_walk(out, at, &edges[..n]),
         WalkAnswer::Refused(number) => put_refused_walk(out, at, number),

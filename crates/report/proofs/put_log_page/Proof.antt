@@ -1,6 +1,5 @@
 -- put_log_page meets its contract: the log's refusal, or the page of its words. Assumes nothing.
 use Prim.Native.Nat.{_≤_}
-use borrow.Author.Needs.{needs}
 use denote.Ref.{now}
 use lib.ListN.{length, take, replicate}
 use lib.Seq.{length-take-le}
@@ -11,15 +10,16 @@ use Rattle.joblog.proofs.Told.{told-refused}
 use Rattle.report.specs.Page.{logPage}
 use Rattle.appending.proofs.Storing.{appends-same}
 use Rattle.report.proofs.Answers.{log-entries}
+use borrow.Author.Needs.{needs}
 use Rattle.report.proofs.put_log_page.Statement.{statement}
 use Rattle.report.proofs.put_log_page.Tie as tie
 
 -- the log was read to the first words of the buffer
 read : (c : tie.After-a) → (c .a .given .0 .0 ≤ length (c .before .before .before .read-log .last .1 .0))
-    × (readLog (now (c .before .before .before .before .before .before .before .args .steps)) entryLimit ≡ entries (take (c .a .given .0 .0) (c .before .before .before .read-log .last .1 .0)))
+    × (readLog (now (c .before .before .before .before .before .before .before .before .args .steps)) entryLimit ≡ entries (take (c .a .given .0 .0) (c .before .before .before .read-log .last .1 .0)))
 read c =
     let r = c .before .before .before .read-log in
-    log-entries (now (c .before .before .before .before .before .before .before .args .steps)) (replicate entryLimit 0) (r .last .1 .0) (r .result) (c .a .given .0 .0) (r .ensures) (c .a .given .1)
+    log-entries (now (c .before .before .before .before .before .before .before .before .args .steps)) (replicate entryLimit 0) (r .last .1 .0) (r .result) (c .a .given .0 .0) (r .ensures) (c .a .given .1)
 
 slice-aggregate-read-log : tie.Need-slice-aggregate-read-log
 slice-aggregate-read-log c = search needs
@@ -53,7 +53,7 @@ same-length c = search needs
 returns : tie.Need-returns
 returns c =
     let k = c .before .before .before .before .before .before in
-    appends-same (ap (logPage (k .before .before .before .before .before .before .before .args .table)) (sym (read k .1))) (c .before .before .put-table-page .ensures)
+    λ t P. appends-same (ap (logPage t) (sym (read k .1))) (c .before .before .put-table-page .ensures t P)
 
 same-length-2 : tie.Need-same-length-2
 same-length-2 c = search needs
@@ -61,10 +61,10 @@ same-length-2 c = search needs
 returns-2 : tie.Need-returns-2
 returns-2 c =
     let k = c .before .before .before .before .before in
-    let a = k .before .before .before .before .before .before .before .args in
+    let a = k .before .before .before .before .before .before .before .before .args in
     let r = k .before .before .before .read-log in
     let v = k .a2 .given in
-    appends-same (ap (logPage (a .table)) (sym (told-refused (now (a .steps)) (replicate entryLimit 0) (r .last .1 .0) (r .result) (v .0 .0) (v .0 .1 .0) (r .ensures) (v .1) .0))) (c .before .before .put-refusal .ensures)
+    λ t P. appends-same (ap (logPage t) (sym (told-refused (now (a .steps)) (replicate entryLimit 0) (r .last .1 .0) (r .result) (v .0 .0) (v .0 .1 .0) (r .ensures) (v .1) .0))) (c .before .before .put-refusal .ensures)
 
 pub put-log-page-spec : {M : Type 1} → statement M
 put-log-page-spec =

@@ -1,6 +1,5 @@
 -- put_table_page meets its contract: judging's refusal, or the verdicts and then the walk. Assumes nothing.
 use Prim.Native.Nat.{ℕ, _≤_}
-use borrow.Author.Needs.{needs}
 use denote.Ref.{now}
 use lib.ListN.{replicate, length, take}
 use lib.Seq.{length-take-le}
@@ -13,21 +12,23 @@ use Rattle.lines.specs.Lines.{verdictLines}
 use Rattle.report.specs.Page.{ruleOf, walkPage, tablePage}
 use Rattle.appending.proofs.Storing.{appends-then, appends-same}
 use Rattle.report.proofs.Answers.{held-room, held-page, refused-page}
+use borrow.Author.Needs.{needs}
 use Rattle.report.proofs.put_table_page.Statement.{statement}
 use Rattle.report.proofs.put_table_page.Tie as tie
 
 -- the buffer has a word for each entry
-room : (c : tie.After-j) → length (now (c .before .before .before .before .before .before .before .args .log)) ≤ length (c .before .before .before .judge .last .1 .1 .0)
+room : (c : tie.After-j) → length (now (c .before .before .before .before .before .before .before .before .args .log)) ≤ length (c .before .before .before .judge-lent .last .1 .1 .0)
 room c =
-    let a = c .before .before .before .before .before .before .before .args in
-    let j = c .before .before .before .judge in
-    omega (arith, held-room (wellFormed (a .table)) (sheetOf (a .table)) (now (a .log)) (replicate entryLimit 0) (j .result) (c .j .given .0 .0) (j .last .1 .1 .0) (c .j .given .1) (j .ensures .0), j .kept .1 .1 .0)
+    let S = c .before .before .before .before .before .before .before .before in
+    let t = S .pre .0 in
+    let j = c .before .before .before .judge-lent in
+    omega (arith, held-room (wellFormed t) (sheetOf t) (now (S .args .log)) (replicate entryLimit 0) (j .result) (c .j .given .0 .0) (j .last .1 .1 .0) (c .j .given .1) (j .ensures .0 t (S .pre .1)), j .kept .1 .1 .0)
 
-slice-aggregate-judge : tie.Need-slice-aggregate-judge
-slice-aggregate-judge c = search needs
+slice-aggregate-judge-lent : tie.Need-slice-aggregate-judge-lent
+slice-aggregate-judge-lent c = search needs
 
-judge-requires : tie.Need-judge-requires
-judge-requires c κs = search needs
+judge-lent-requires : tie.Need-judge-lent-requires
+judge-lent-requires c κs = search needs
 
 enum-known-j : tie.Need-enum-known-j
 enum-known-j c = search needs
@@ -41,7 +42,7 @@ array-share-prefix-verdicts c = room (c .before .before .before)
 slice-aggregate-put-verdicts : tie.Need-slice-aggregate-put-verdicts
 slice-aggregate-put-verdicts c =
     let k = c .before .before .before .before in
-    sym (length-take-le (length (now (k .before .before .before .before .before .before .before .args .log))) (k .before .before .before .judge .last .1 .1 .0) (room k))
+    sym (length-take-le (length (now (k .before .before .before .before .before .before .before .before .args .log))) (k .before .before .before .judge-lent .last .1 .1 .0) (room k))
 
 put-verdicts-requires : tie.Need-put-verdicts-requires
 put-verdicts-requires c κs = search needs
@@ -61,12 +62,13 @@ same-length c = search needs
 returns : tie.Need-returns
 unfolding tablePage
 returns c =
-    let j = c .before .before .before .before .before .before .before .before .before .before .before .before .before .before .judge in
-    let a = c .before .before .before .before .before .before .before .before .before .before .before .before .before .before .before .before .before .before .args in
+    let j = c .before .before .before .before .before .before .before .before .before .before .before .before .before .before .judge-lent in
+    let a = c .before .before .before .before .before .before .before .before .before .before .before .before .before .before .before .before .before .before .before .args in
     let h = c .before .before .before .before .before .before .before .before .before .before .before .j .given .0 .0 in
     let words = take (length (now (a .log))) (j .last .1 .1 .0) in
-    appends-same (held-page (wellFormed (a .table)) (sheetOf (a .table)) (now (a .log)) (replicate entryLimit 0) (ruleOf (a .table)) (length (now (a .log))) (walkPage (a .table) (now (a .log))) (j .result) h (j .last .1 .1 .0) (c .before .before .before .before .before .before .before .before .before .before .before .j .given .1) (j .ensures .0))
-    (appends-then (appends-same (ap (λ (k : ℕ). verdictLines k h words) (c .before .before .before .before .before .before .before .before .before .rule-of .ensures)) (c .before .before .before .before .before .before .put-verdicts .ensures)) (c .before .before .put-walk-page .ensures))
+    λ t P.
+    appends-same (held-page (wellFormed t) (sheetOf t) (now (a .log)) (replicate entryLimit 0) (ruleOf t) (length (now (a .log))) (walkPage t (now (a .log))) (j .result) h (j .last .1 .1 .0) (c .before .before .before .before .before .before .before .before .before .before .before .j .given .1) (j .ensures .0 t P))
+    (appends-then (appends-same (ap (λ (k : ℕ). verdictLines k h words) (c .before .before .before .before .before .before .before .before .before .rule-of .ensures t P)) (c .before .before .before .before .before .before .put-verdicts .ensures)) (c .before .before .put-walk-page .ensures t P))
 
 same-length-2 : tie.Need-same-length-2
 same-length-2 c = search needs
@@ -74,17 +76,18 @@ same-length-2 c = search needs
 returns-2 : tie.Need-returns-2
 unfolding tablePage
 returns-2 c =
-    let j = c .before .before .before .before .before .before .before .before .judge in
-    let a = c .before .before .before .before .before .before .before .before .before .before .before .before .args in
+    let j = c .before .before .before .before .before .before .before .before .judge-lent in
+    let a = c .before .before .before .before .before .before .before .before .before .before .before .before .before .args in
     let v = c .before .before .before .before .before .j2 .given in
-    appends-same (refused-page (wellFormed (a .table)) (sheetOf (a .table)) (now (a .log)) (replicate entryLimit 0) (ruleOf (a .table)) (length (now (a .log))) (walkPage (a .table) (now (a .log))) (j .result) (v .0 .0) (j .last .1 .1 .0) (v .1) (j .ensures .0) (j .ensures .1)) (c .before .before .put-refusal .ensures)
+    λ t P.
+    appends-same (refused-page (wellFormed t) (sheetOf t) (now (a .log)) (replicate entryLimit 0) (ruleOf t) (length (now (a .log))) (walkPage t (now (a .log))) (j .result) (v .0 .0) (j .last .1 .1 .0) (v .1) (j .ensures .0 t P) (j .ensures .1 t P)) (c .before .before .put-refusal .ensures)
 
 pub put-table-page-spec : {M : Type 1} → statement M
 put-table-page-spec =
     tie.close
     (tie.spec
-    slice-aggregate-judge
-    judge-requires
+    slice-aggregate-judge-lent
+    judge-lent-requires
     enum-known-j
     rule-of-requires
     array-share-prefix-verdicts
