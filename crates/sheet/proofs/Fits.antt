@@ -2,7 +2,7 @@
 use Prim.Native.Nat.{ℕ, zero, suc, _+_, _-_, _%_, _^_, _≤_, _<_}
 use mathlib.Core.Path.{_≡_, ap, subst}
 use mathlib.Core.List.{List}
-use mathlib.Core.Bool.{Bool, true, false, not, _&&_}
+use mathlib.Core.Bool.{Bool, true, false, not, _&&_, and-false}
 use mathlib.Core.Logic.{_⊎_, inl, inr}
 use native.Mathlib.Numerals.{add-one}
 use native.Mathlib.Nat.{mod-eq-of-lt, lt-of-lt-of-le}
@@ -93,11 +93,15 @@ module _ (t : Table) (u : Used) (s : sized t ≡ true) (eu : u ≡ t .used) wher
   unfolding wellFormed
   no-nodes h k = let y = rw eu at h in rw (s, y, k)
 
+  pub no-ends : usedFits u ≡ true → nodesFit t ≡ true → nodesEnd (t .nodes) (u .nodes) ≡ false → false ≡ wellFormed t
+  unfolding wellFormed
+  no-ends h k n = let y = rw eu at h in let z = rw eu at n in rw (s, y, k, z, and-false (automataFit t))
+
   pub no-automata : usedFits u ≡ true → nodesFit t ≡ true → automataFit t ≡ false → false ≡ wellFormed t
   unfolding wellFormed
   no-automata h k m = let y = rw eu at h in rw (s, y, k, m)
 
-  pub by-ends : usedFits u ≡ true → nodesFit t ≡ true → automataFit t ≡ true → (a b c o : Bool) (w : ℕ) → a ≡ nodesEnd (t .nodes) (u .nodes) → b ≡ automataEnd (t .automata) (u .automata)
-      → c ≡ edgesEnd (t .edges) (u .edges) → o ≡ allOwned t → w ≡ wholeOf t → (a && b && c && o && leb (u .automata) w) ≡ wellFormed t
+  pub by-ends : usedFits u ≡ true → nodesFit t ≡ true → nodesEnd (t .nodes) (u .nodes) ≡ true → automataFit t ≡ true → (b c o : Bool) (w : ℕ) → b ≡ automataEnd (t .automata) (u .automata) → c ≡ edgesEnd (t .edges) (u .edges) → o ≡ allOwned t → w ≡ wholeOf t
+      → (b && c && o && leb (u .automata) w) ≡ wellFormed t
   unfolding wellFormed
-  by-ends h k m a b c o w ea eb ec eo ew = let y = rw eu at h in rw (s, y, k, m, ea, eb, ec, eo, ew, eu)
+  by-ends h k n m b c o w eb ec eo ew = let y = rw eu at h in let z = rw eu at n in rw (s, y, k, m, z, eb, ec, eo, ew, eu)

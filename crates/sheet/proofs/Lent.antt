@@ -1,12 +1,11 @@
 -- What is read from lent numbers is what their table has: question 31's and question 10's checks in the terms of what the loops read.
 use Prim.Native.Nat.{ℕ, _+_, _-_, _%_, _≤_, _<_}
 use mathlib.Core.Path.{_≡_, ap, sym, _∙_}
-use mathlib.Core.List.{List, [], _∷_, _++_}
+use mathlib.Core.List.{List}
 use mathlib.Core.Bool.{Bool, true, false}
-use native.Mathlib.Numerals.{add-one}
 use native.Mathlib.Omega.{arith}
 use lib.ListN.{length, getD, take, drop, set}
-use lib.Seq.{take-suc, take-suc-set, take-all, length-take-le, getD-take}
+use lib.Seq.{length-take-le, getD-take}
 use lib.Dec.{eqb}
 use Rattle.aldlf.specs.Constants.{nodeLimit, automatonLimit}
 use Rattle.aldlf.specs.Sheet.{noLine, noAutomaton}
@@ -16,8 +15,10 @@ use Rattle.aldlf.specs.declared.Used.{Used}
 use Rattle.aldlf.specs.declared.Table.{Table}
 use Rattle.packing.specs.Numbers.{lentLine, lentAutomaton, lentUsed}
 use Rattle.packing.specs.Packed.{Packed}
-use Rattle.sheet.specs.Questions.{plains, each, edgesOf, eachState, whole, wholeOf}
-use Rattle.sheet.specs.Given.{nodeFits, nodeOk, nodesFit, headFits, edgesFit, automatonOk, automataFit, edgesBefore, nodesBefore, allOwned, sized}
+use Rattle.sheet.specs.Questions.{plainNode, plainFrom, plains, each, edgesOf, eachState, whole, wholeOf}
+use Rattle.sheet.specs.Given.{nodeFits, nodeOk, nodesFit, headFits, edgesFit, automatonOk, automataFit, edgesBefore, nodesBefore, nodesEnd, allOwned, sized}
+use Rattle.sheet.proofs.Asked.{plains-on}
+use Rattle.sheet.proofs.Plain.{plains-rest}
 use Rattle.sheet.proofs.Fits.{fits-at, edges-next, nodes-next, edges-last, no-head, by-edges}
 use Rattle.sheet.proofs.Closed.{whole-on, whole-here, whole-end}
 
@@ -29,18 +30,13 @@ module _ {t : Table} {numbers : List ℕ} (P : Packed t numbers) where
   pub sized-is : sized t ≡ true
   sized-is = rw (P .nodes-length, P .automata-length, P .edges-length)
 
-  -- the node lines, one after the other
-  pub lines-next : (lines : List NodeLine) (k : ℕ) (x : NodeLine) → k < length lines → k < nodeLimit → x ≡ lentLine numbers k → take k lines ≡ take k (t .nodes)
-      → take (k + 1) (set lines k x) ≡ take (k + 1) (t .nodes)
-  lines-next lines k x h l e same =
-      ap (λ (n : ℕ). take n (set lines k x)) (add-one k)
-      ∙ take-suc-set lines k x h
-      ∙ ap (λ (xs : List NodeLine). xs ++ (x ∷ [])) same
-      ∙ ap (λ (y : NodeLine). take k (t .nodes) ++ (y ∷ [])) (e ∙ P .line-is k l)
-      ∙ sym (ap (λ (n : ℕ). take n (t .nodes)) (add-one k) ∙ take-suc (t .nodes) k noLine (omega (arith, P .nodes-length)))
-
-  pub lines-all : (lines : List NodeLine) (k : ℕ) → length lines ≤ k → nodeLimit ≤ k → take k lines ≡ take k (t .nodes) → lines ≡ t .nodes
-  lines-all lines k h l same = sym (take-all k lines h) ∙ same ∙ take-all k (t .nodes) (omega (arith, P .nodes-length))
+  -- the flags of the nodes, one after the other
+  pub flags-next : (p : List Bool) (k : ℕ) (x : NodeLine) (f : Bool) → k < nodeLimit → x ≡ lentLine numbers k → f ≡ plainNode p x → plainFrom (drop k (t .nodes)) k p ≡ plains (t .nodes)
+      → plainFrom (drop (k + 1) (t .nodes)) (k + 1) (set p k f) ≡ plains (t .nodes)
+  flags-next p k x f h ex ef same =
+      ap (λ (b : Bool). plainFrom (drop (k + 1) (t .nodes)) (k + 1) (set p k b)) (ef ∙ ap (plainNode p) (ex ∙ P .line-is k h))
+      ∙ sym (plains-on (t .nodes) k p (omega (arith, P .nodes-length)))
+      ∙ same
 
   -- automaton m, and what stands before the next
   module _ {x : Automaton} (m : ℕ) (h : m < automatonLimit) (ex : x ≡ lentAutomaton numbers m) where
@@ -57,6 +53,14 @@ module _ {t : Table} {numbers : List ℕ} (P : Packed t numbers) where
   module _ {u : Used} (read : u ≡ lentUsed numbers) where
     pub counts-are : u ≡ t .used
     counts-are = read ∙ P .used-is
+
+    -- the flags after the nodes in use stay as they are
+    pub flags-all : (p : List Bool) (k : ℕ) → u .nodes ≤ k → k ≤ nodeLimit → ((i : ℕ) → k ≤ i → i < nodeLimit → getD p i false ≡ false) → plainFrom (drop k (t .nodes)) k p ≡ plains (t .nodes)
+        → nodesEnd (t .nodes) (t .used .nodes) ≡ true → p ≡ plains (t .nodes)
+    flags-all p k h l f same e = sym (plains-rest (t .nodes) (t .used .nodes) k p (P .nodes-length) e (omega (arith, ap (λ (v : Used). v .nodes) counts-are)) l f) ∙ same
+
+    pub ends-are : nodesEnd (t .nodes) (u .nodes) ≡ true → nodesEnd (t .nodes) (t .used .nodes) ≡ true
+    ends-are e = ap (λ (v : Used). nodesEnd (t .nodes) (v .nodes)) (sym counts-are) ∙ e
 
     pub node-read : (x : NodeLine) (y : Automaton) (k : ℕ) → x ≡ lentLine numbers k → y ≡ lentAutomaton numbers (x .a % automatonLimit) → k < nodeLimit → u .automata ≤ automatonLimit
         → nodeFits (u .automata) (y .before) k x ≡ nodeOk t k

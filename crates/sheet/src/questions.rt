@@ -211,7 +211,7 @@ fn plain_step(nodes: [NodeLine; aldlf::NODES], l: Line) -> bool
 }
 
 // Of each node, whether it is neither D nor B and built on none.
-pub(crate) fn plains_of(nodes: [NodeLine; aldlf::NODES]) -> [bool; aldlf::NODES]
+fn plains_of(nodes: [NodeLine; aldlf::NODES]) -> [bool; aldlf::NODES]
     ensures { λ r. ⌜ r ≡ plains nodes ⌝ }
 {
     let mut p = [false; aldlf::NODES];
@@ -225,7 +225,7 @@ pub(crate) fn plains_of(nodes: [NodeLine; aldlf::NODES]) -> [bool; aldlf::NODES]
     p
 }
 
-fn plain_node(p: &[bool], x: NodeLine) -> bool
+pub(crate) fn plain_node(p: &[bool], x: NodeLine) -> bool
     ensures { λ r. ⌜ r ≡ plainNode (now (p .entry)) x ⌝ }
 {
     let c = x.kind;
