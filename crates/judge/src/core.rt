@@ -131,7 +131,7 @@ fn judge_nodes(
     };
     let mut k: u8 = 0;
     while k < count {
-        let line = line_at(numbers, k);
+        let line = line_at(numbers, Node(k));
         let m = automaton_number(line);
         let automaton = automaton_at(numbers, m);
         let given = row.bits[k as usize];

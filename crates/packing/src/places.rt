@@ -5,6 +5,7 @@ use super::pieces::edge_in;
 use super::pieces::line_in;
 use aldlf::Automaton;
 use aldlf::Edge;
+use aldlf::Node;
 use aldlf::NodeLine;
 use aldlf::Used;
 ghost use mathlib.Core.Path.{_≡_};
@@ -34,12 +35,12 @@ pub fn edge_at(numbers: &[u32], e: u16) -> Edge
     edge_in(numbers[e as usize])
 }
 
-// Node line k.
-pub fn line_at(numbers: &[u32], k: u8) -> NodeLine
-    requires { ⌜ (length (now numbers) ≡ places) × (k < nodeLimit) ⌝ }
-    ensures { λ r. ⌜ r ≡ lentLine (now (numbers .entry)) k ⌝ }
+// A node's line.
+pub fn line_at(numbers: &[u32], node: Node) -> NodeLine
+    requires { ⌜ (length (now numbers) ≡ places) × (node .0 < nodeLimit) ⌝ }
+    ensures { λ r. ⌜ r ≡ lentLine (now (numbers .entry)) (node .0) ⌝ }
 {
-    line_in(numbers[LINES + k as usize])
+    line_in(numbers[LINES + node.0 as usize])
 }
 
 // Automaton m.

@@ -67,7 +67,7 @@ fn walk_judged(
     if words.len() <= i {
         return WalkAnswer::Refused(37);
     }
-    let line = line_at(numbers, k);
+    let line = line_at(numbers, node);
     if !is_modal(line) {
         return WalkAnswer::Refused(38);
     }
