@@ -36,14 +36,14 @@ pub put-at : (P : ℕ → ℕ → Type 0) (place n i : ℕ) (before after : List
 put-at P place n i before after v e l K p = subst (λ (j : ℕ). Put P place (n + 1) before (set after j v)) (sym e) (put-next P place n before after v K (omega arith) p)
 
 -- the first k of n pieces of one number each: what stands at their places, and whether they fit
-pub record Lent {X : Type 0} (fits : X → Bool) (in-number : ℕ → X) (cut : X → X) (f : ℕ → X) (none : X) (place n k : ℕ) (fit : Bool) (before after : List ℕ) : Type 0 where
+pub record SoFar {X : Type 0} (fits : X → Bool) (in-number : ℕ → X) (cut : X → X) (f : ℕ → X) (none : X) (place n k : ℕ) (fit : Bool) (before after : List ℕ) : Type 0 where
   pub below : k ≤ n
   pub all : fit ≡ allOf fits (listed k f)
   pub put : Put (λ (j p : ℕ). in-number p ≡ getD (listed n (λ i. cut (f i))) j none) place k before after
 
 module _ {X : Type 0} (fits : X → Bool) (in-number : ℕ → X) (cut : X → X) (f : ℕ → X) (none : X) (place n : ℕ) (before : List ℕ) where
   abbrev Some : ℕ → Bool → List ℕ → Type 0
-  Some k fit after = Lent fits in-number cut f none place n k fit before after
+  Some k fit after = SoFar fits in-number cut f none place n k fit before after
 
   pub lent-none : Some 0 true before
   lent-none = record { below = omega arith; all = fit-none fits f; put = put-none _ place before }
@@ -123,7 +123,7 @@ module _ (xs : List ℕ) where
       record { same = P .same; done = λ k h. P .done k h ∙ C .edge-is k h ∙ sym (listed-at edgeLimit (λ i. edgeCut (edge-of i)) k noEdge h); low = P .low; high = P .high }
 
 -- the first k automata, three numbers each
-pub record HeadsLent (xs : List ℕ) (k : ℕ) (fit : Bool) (before after : List ℕ) : Type 0 where
+pub record HeadsSoFar (xs : List ℕ) (k : ℕ) (fit : Bool) (before after : List ℕ) : Type 0 where
   pub below : k ≤ automatonLimit
   pub size : length after ≡ places
   pub all : fit ≡ allOf automatonFits (listed k (λ m. automatonAt xs (automataPlace + automatonSize * m)))
@@ -133,11 +133,11 @@ module _ (xs before : List ℕ) where
   abbrev automaton : ℕ → Automaton
   automaton m = automatonAt xs (automataPlace + automatonSize * m)
 
-  pub heads-lent-none : length before ≡ places → HeadsLent xs 0 true before before
+  pub heads-lent-none : length before ≡ places → HeadsSoFar xs 0 true before before
   heads-lent-none size = record { below = omega arith; size = size; all = fit-none automatonFits automaton; put = heads-none _ before }
 
-  pub heads-lent-next : (k : ℕ) (fit b : Bool) (after last : List ℕ) → HeadsLent xs k fit before after → k < automatonLimit → b ≡ automatonFits (automaton k) → HeadPut (automatonCut (automaton k)) k after last
-      → HeadsLent xs (k + 1) (fit && b) before last
+  pub heads-lent-next : (k : ℕ) (fit b : Bool) (after last : List ℕ) → HeadsSoFar xs k fit before after → k < automatonLimit → b ≡ automatonFits (automaton k) → HeadPut (automatonCut (automaton k)) k after last
+      → HeadsSoFar xs (k + 1) (fit && b) before last
   heads-lent-next k fit b after last S h e H =
       record {
         below = omega arith;
@@ -146,7 +146,7 @@ module _ (xs before : List ℕ) where
         put = heads-next (cutIn xs .automata) k before after last h (S .put) (subst (λ (x : Automaton). HeadPut x k after last) (sym (listed-at automatonLimit (λ m. automatonCut (automaton m)) k noAutomaton h)) H);
       }
 
-  pub heads-lent-all : (k : ℕ) (fit : Bool) (after : List ℕ) → HeadsLent xs k fit before after → automatonLimit ≤ k → (fit ≡ allOf automatonFits (automataIn xs)) × HeadsPut (cutIn xs .automata) automatonLimit before after
+  pub heads-lent-all : (k : ℕ) (fit : Bool) (after : List ℕ) → HeadsSoFar xs k fit before after → automatonLimit ≤ k → (fit ≡ allOf automatonFits (automataIn xs)) × HeadsPut (cutIn xs .automata) automatonLimit before after
   heads-lent-all k fit after S h =
       let e : k ≡ automatonLimit = omega (arith, S .below) in
       (S .all ∙ ap (λ (m : ℕ). allOf automatonFits (listed m automaton)) e, subst (λ (m : ℕ). HeadsPut (cutIn xs .automata) m before after) e (S .put))

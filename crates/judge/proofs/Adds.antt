@@ -8,9 +8,9 @@ use mathlib.Core.Bool.{Bool, true, false}
 use mathlib.Core.List.{List, _++_}
 use lib.Dec.{eqb, ltb}
 use lib.ListN.{getD, length, set, length-set, take, drop, replicate, length-append, length-take}
-use lib.Seq.{ext-getD, getD-set-same, getD-set-other, getD-take, length-take-le, drop-cons, set-at, append-snoc, take-suc, take-at, length-front}
+use lib.Seq.{ext-getD, getD-set-same, getD-set-other, length-take-le, drop-cons, set-at, append-snoc, take-suc, take-at}
 use borrow.Author.Tests.{eqb-true, eqb-false, ltb-true, ltb-false}
-use Rattle.aldlf.specs.Constants.{nodeLimit, entryLimit}
+use Rattle.aldlf.specs.Constants.{nodeLimit}
 use Rattle.aldlf.specs.Outcomes.{one, packBits, countBelow, tabulate}
 use Rattle.aldlf.proofs.Bools.{bool-cases}
 use Rattle.aldlf.proofs.Packing.{length-tabulate, getD-tabulate}

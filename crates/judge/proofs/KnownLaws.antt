@@ -2,13 +2,10 @@
 use Prim.Native.Nat.{ℕ, _+_, _-_, _^_, _≤_, _<_}
 use native.Mathlib.Omega.{arith}
 use mathlib.Core.Path.{_≡_, sym, subst, ap, _∙_}
-use mathlib.Core.Logic.{_⊎_, inl, inr}
 use mathlib.Core.Bool.{Bool, true, false}
 use mathlib.Core.List.{List}
-use lib.Dec.{eqb}
-use lib.ListN.{getD, length, take, drop, set, length-set, length-drop}
-use lib.Seq.{getD-take, getD-drop, getD-set-same, getD-set-other, length-take-le}
-use borrow.Author.Tests.{eqb-true, eqb-false}
+use lib.ListN.{getD, length, take, drop, length-drop}
+use lib.Seq.{getD-take, getD-drop, length-take-le}
 use Rattle.aldlf.specs.Constants.{nodeLimit}
 use Rattle.aldlf.specs.Sheet.{sheetOf, lineOf}
 use Rattle.aldlf.specs.Verdict.{rowOf}
@@ -17,7 +14,6 @@ use Rattle.aldlf.specs.declared.Table.{Table}
 use Rattle.aldlf.specs.declared.Row.{Row}
 use Rattle.aldlf.specs.declared.Automaton.{Automaton}
 use Rattle.aldlf.specs.declared.NodeLine.{NodeLine}
-use Rattle.aldlf.proofs.Bools.{bool-cases}
 use Rattle.sheet.specs.Facts.{nodeAt, automatonAt, AutomatonFacts}
 use Rattle.reach.specs.Marks.{at, EdgesFit}
 use Rattle.judge.specs.declared.nodes.Job.{Job}

@@ -1,21 +1,20 @@
 -- The steps at hand: whose they are when a node is judged, and that they serve the nodes after it, because an automaton's edges test only nodes above it.
 use Prim.Native.Nat.{ℕ, _+_, _*_, _≤_, _<_}
 use native.Mathlib.Omega.{arith}
-use mathlib.Core.Path.{_≡_, refl, sym, subst, ap, _∙_}
-use mathlib.Core.Bool.{Bool, true, false, true≢false}
+use mathlib.Core.Path.{_≡_, sym, subst, ap, _∙_}
+use mathlib.Core.Bool.{true, false, true≢false}
 use mathlib.Core.List.{List}
 use lib.ListN.{length}
 use Rattle.aldlf.specs.Constants.{automatonLimit}
 use Rattle.aldlf.specs.Sheet.{Sheet, sheetOf, bit}
 use Rattle.aldlf.specs.Parts.{Bits}
-use Rattle.aldlf.specs.Verdict.{judge}
 use Rattle.aldlf.specs.Outcomes.{bitsOf}
 use Rattle.aldlf.specs.declared.Table.{Table}
 use Rattle.aldlf.specs.declared.Row.{Row}
 use Rattle.aldlf.specs.declared.Automaton.{Automaton}
 use Rattle.aldlf.specs.declared.NodeLine.{NodeLine}
 use Rattle.aldlf.proofs.Laws.{judge-below}
-use Rattle.sheet.specs.Facts.{nodeAt, automatonAt, edgeAt, AutomatonFacts}
+use Rattle.sheet.specs.Facts.{nodeAt, automatonAt, edgeAt}
 use Rattle.reach.specs.Marks.{at, testOf}
 use Rattle.reach.specs.Columns as steps
 use Rattle.reach.proofs.Shared.{filled-keep}

@@ -3,7 +3,7 @@ use super::steps::group_of;
 use super::steps::make;
 use super::steps::one_bit;
 ghost use mathlib.Core.Path.{_≡_};
-ghost use Prim.Native.Nat.{ℕ, _+_, _*_, _^_, _≤_, _<_};
+ghost use Prim.Native.Nat.{_+_, _*_, _^_, _≤_, _<_};
 ghost use mathlib.Core.Bool.{true};
 ghost use lib.Bits.{bitAnd};
 ghost use lib.ListN.{length};

@@ -6,7 +6,7 @@ ghost use mathlib.Core.Path.{_≡_};
 ghost use Prim.Native.Nat.{ℕ, _+_, _*_, _^_, _≤_, _<_};
 ghost use lib.Bits.{bitOr};
 ghost use lib.ListN.{length, set};
-ghost use Rattle.aldlf.specs.Constants.{nodeLimit, stateLimit};
+ghost use Rattle.aldlf.specs.Constants.{stateLimit};
 ghost use Rattle.aldlf.specs.Sheet.{«bit» as bitOf};
 ghost use Rattle.reach.specs.Marks.{at, pick, testOf, fromOf, EdgeFits, EdgesFit};
 ghost use Rattle.reach.specs.Columns.{groupOf, columnOf, Pulled, Held, Apart, Pivoted, Joined, Columns};

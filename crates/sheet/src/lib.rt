@@ -6,7 +6,6 @@ mod line;
 mod questions;
 
 use aldlf::Table;
-use build::Reading;
 use build::added_to;
 use build::empty_table;
 use build::start_reading;

@@ -1,6 +1,6 @@
 -- `cut_edges` meets its contract: the bytes passed are cut, and it is known whether they fit. Assumes nothing.
 use Prim.Native.Nat.{ℕ, _-_, _%_}
-use Rattle.crossing.proofs.Lent.{Lent, lent-none, lent-next, lent-all, edge-byte, edges-cut}
+use Rattle.crossing.proofs.Lent.{SoFar, lent-none, lent-next, lent-all, edge-byte, edges-cut}
 use Rattle.crossing.specs.Numbers.{isByte}
 use Rattle.crossing.specs.Steps.{edgeBytes}
 use borrow.Author.Needs.{needs}
@@ -11,7 +11,7 @@ use Rattle.crossing.proofs.lending.cut_edges.Statement.{statement}
 use Rattle.crossing.proofs.lending.cut_edges.Tie as tie
 
 abbrev Inv-loop : tie.InvT-loop
-Inv-loop xs bytes₀ fit₀ k₀ bytes fit k = Lent isByte (λ (b : ℕ). b) (λ (x : ℕ). x % 256) (edge-byte xs) 0 0 edgeBytes k fit bytes₀ bytes
+Inv-loop xs bytes₀ fit₀ k₀ bytes fit k = SoFar isByte (λ (b : ℕ). b) (λ (x : ℕ). x % 256) (edge-byte xs) 0 0 edgeBytes k fit bytes₀ bytes
 
 abbrev μ-loop : tie.MeasureT-loop
 μ-loop xs bytes₀ fit₀ k₀ bytes fit k = 1024 - k

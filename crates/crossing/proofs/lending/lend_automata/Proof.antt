@@ -1,13 +1,13 @@
 -- `lend_automata` meets its contract: those passed stand in their places, and it is known whether they fit. Assumes nothing.
 use Prim.Native.Nat.{_-_}
-use Rattle.crossing.proofs.Lent.{HeadsLent, heads-lent-none, heads-lent-next, heads-lent-all}
+use Rattle.crossing.proofs.Lent.{HeadsSoFar, heads-lent-none, heads-lent-next, heads-lent-all}
 use borrow.Author.Needs.{needs}
 use denote.Ref.{now}
 use Rattle.crossing.proofs.lending.lend_automata.Statement.{statement}
 use Rattle.crossing.proofs.lending.lend_automata.Tie as tie
 
 abbrev Inv-loop : tie.InvT-loop
-Inv-loop xs numbers₀ fit₀ k₀ numbers fit k = HeadsLent xs k fit numbers₀ numbers
+Inv-loop xs numbers₀ fit₀ k₀ numbers fit k = HeadsSoFar xs k fit numbers₀ numbers
 
 abbrev μ-loop : tie.MeasureT-loop
 μ-loop xs numbers₀ fit₀ k₀ numbers fit k = 16 - k

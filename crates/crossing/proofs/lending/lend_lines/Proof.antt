@@ -2,7 +2,7 @@
 use Prim.Native.Nat.{_+_, _*_, _-_}
 use Rattle.aldlf.specs.Constants.{nodeLimit}
 use Rattle.aldlf.specs.Sheet.{noLine}
-use Rattle.crossing.proofs.Lent.{Lent, lent-none, lent-next, lent-all}
+use Rattle.crossing.proofs.Lent.{SoFar, lent-none, lent-next, lent-all}
 use Rattle.crossing.specs.Numbers.{lineSize, lineAt, lineFits}
 use Rattle.crossing.specs.Steps.{lineCut}
 use Rattle.packing.specs.Numbers.{lineIn}
@@ -13,7 +13,7 @@ use Rattle.crossing.proofs.lending.lend_lines.Statement.{statement}
 use Rattle.crossing.proofs.lending.lend_lines.Tie as tie
 
 abbrev Inv-loop : tie.InvT-loop
-Inv-loop xs numbers₀ fit₀ k₀ numbers fit k = Lent lineFits lineIn lineCut (λ i. lineAt xs (lineSize * i)) noLine 256 nodeLimit k fit numbers₀ numbers
+Inv-loop xs numbers₀ fit₀ k₀ numbers fit k = SoFar lineFits lineIn lineCut (λ i. lineAt xs (lineSize * i)) noLine 256 nodeLimit k fit numbers₀ numbers
 
 abbrev μ-loop : tie.MeasureT-loop
 μ-loop xs numbers₀ fit₀ k₀ numbers fit k = 64 - k

@@ -6,7 +6,7 @@ use denote.Ref.{now}
 use lib.Bits.{bitOr}
 use lib.ListN.{set}
 use mathlib.Core.Bool.{Bool}
-use mathlib.Core.Path.{_≡_, refl, sym, subst, ap, ap₂, _∙_}
+use mathlib.Core.Path.{ap, ap₂, _∙_}
 use borrow.Author.Needs.{needs}
 use Rattle.reach.proofs.steps.add_edge.Statement.{statement}
 use Rattle.reach.proofs.steps.add_edge.Tie as tie

@@ -1,19 +1,13 @@
 -- `plains_of` meets its contract: what is left of the nodes always gives the whole list's flags. Assumes nothing.
-use Rattle.sheet.proofs.Asked.{plains-on, plains-end}
-use Prim.Native.Nat.{_-_, _≤_}
-use mathlib.Core.Path.{_≡_, refl, sym, _∙_}
-use lib.ListN.{length, drop, length-set}
-use borrow.Author.Needs.{needs}
-use Rattle.sheet.proofs.Asked.{plains-end}
-use Rattle.sheet.specs.Questions.{plainFrom, plains}
 use Prim.Native.Nat.{_-_, _≤_}
 use mathlib.Core.Path.{_≡_, refl, sym, _∙_}
 use native.Mathlib.Omega.{arith}
-use lib.ListN.{length, drop}
+use lib.ListN.{length, drop, length-set}
+use borrow.Author.Needs.{needs}
+use Rattle.sheet.proofs.Asked.{plains-on, plains-end}
+use Rattle.sheet.specs.Questions.{plainFrom, plains}
 use Rattle.sheet.proofs.questions.plains_of.Statement.{statement}
 use Rattle.sheet.proofs.questions.plains_of.Tie as tie
-
--- `plains_of` meets its contract: what is left of the nodes always gives the whole list's flags. Assumes nothing.
 
 abbrev Inv-loop : tie.InvT-loop
 Inv-loop nodes p₀ i₀ p i = (i ≤ 64) × (length p ≡ 64) × (plainFrom (drop i nodes) i p ≡ plains nodes)
