@@ -1,4 +1,5 @@
-/* What only a caller in C can do or see: empty slices at NULL, and the stack that each call takes. Ends in 'N passed, M failed'. */
+/* What only a caller in C can do or see: empty slices at NULL, and the stack that each call takes; and numbers with zeros before them, read
+ * through the C calls. Ends in 'N passed, M failed'. */
 #include "rozsvelen.h"
 
 #include <pthread.h>
@@ -124,6 +125,23 @@ static void empty_slices(void) {
     check("page into no bytes", rozsvelen_page(NULL, 0, NULL, 0, NULL, 0) == refused(44));
 }
 
+/* A text and it again with zeros before its numbers are read alike; four digits are no number, and a fact and it padded do not rise. */
+static void padded_numbers(void) {
+    enum { T = ROZSVELEN_TABLE };
+    static const char sheet[] = "T\nP,7\nM,1,0\nG,0\nE,0,1,0,0\nD,0,1\n", padded[] = "T\nP,007\nM,01,000\nG,00\nE,00,001,0,000\nD,000,01\n";
+    const uint64_t first = (uint64_t)1 << 32;
+    uint16_t plain[T], again[T];
+    uint32_t log[3] = { 9, 9, 9 };
+    check("read_sheet of unpadded numbers", rozsvelen_read_sheet(text(sheet), sizeof sheet - 1, plain, T) == 0 && plain[4] == 7);
+    check("read_sheet of padded numbers", rozsvelen_read_sheet(text(padded), sizeof padded - 1, again, T) == 0);
+    check("read_sheet of padded numbers, the table", memcmp(plain, again, sizeof plain) == 0);
+    check("read_sheet of P,0007", rozsvelen_read_sheet(text("P,0007\n"), 7, again, T) == refused(4) + first);
+    check("read_log of padded facts", rozsvelen_read_log(text("07,008\n000\n"), 11, log, 3) == 2);
+    check("read_log of padded facts, the words", log[0] == (1 << 7 | 1 << 8) && log[1] == 1 && log[2] == 9);
+    check("read_log of 7,07", rozsvelen_read_log(text("7,07\n"), 5, log, 3) == refused(26) + first);
+    check("read_log of 0007", rozsvelen_read_log(text("0007\n"), 5, log, 3) == refused(24) + first);
+}
+
 int main(void) {
     enum { BYTES = 10 * 4 + 90 * 5 + 412 * 6 + 23 + 10 + 5 * 511 * 2 + 11 * 511 * 3 + 5 * 2 + 10 * 3 }; /* of the page: entries, rule, walk */
     static const char ahead[] = "T\nP,0\nM,1,0\nG,0\nE,0,1,0,0\nE,0,0,1,0\nD,0,1\nB,0,1\n";
@@ -143,6 +161,7 @@ int main(void) {
     takes("page, a byte less", page_less_one, BYTES, 176);
     takes("page in 1023 bytes", short_page, refused(44), 176);
     empty_slices();
+    padded_numbers();
     printf("%d passed, %d failed\n", passed, failed);
     return failed != 0;
 }

@@ -22,6 +22,10 @@ fn read_sheet(text: &[u8], table: &mut [u16]) -> u64 {
     unsafe { rozsvelen_read_sheet(text.as_ptr(), text.len(), table.as_mut_ptr(), table.len()) }
 }
 
+fn read_log(text: &[u8], words: &mut [u32]) -> u64 {
+    unsafe { rozsvelen_read_log(text.as_ptr(), text.len(), words.as_mut_ptr(), words.len()) }
+}
+
 fn judge(table: &[u16], log: &[u32], verdicts: &mut [u64]) -> u64 {
     unsafe { rozsvelen_judge(table.as_ptr(), table.len(), log.as_ptr(), log.len(), verdicts.as_mut_ptr(), verdicts.len()) }
 }
@@ -86,6 +90,27 @@ fn a_refused_sheet_alters_no_table() {
     let mut table = [7; TABLE];
     assert_eq!(read_sheet(b"T\nQ\n", &mut table), refusal(3, 2));
     assert_eq!(table, [7; TABLE]);
+}
+
+#[test]
+fn zeros_before_the_numbers_of_a_sheet_change_nothing() {
+    let mut padded = [7; TABLE];
+    assert_eq!(read_sheet(b"T\nP,001\nM,01,00\nG,000\nE,00,001,000,00\nD,00,01\n", &mut padded), 0);
+    assert_eq!(padded, table());
+    assert_eq!(read_sheet(b"T\nP,0007\n", &mut padded), refusal(4, 2), "four digits are no number");
+    assert_eq!(read_sheet(b"T\nP,032\n", &mut padded), refusal(7, 2), "a padded number is held to its range");
+    assert_eq!(padded, table());
+}
+
+#[test]
+fn zeros_before_the_facts_of_a_log_change_nothing() {
+    let mut words = [9; 4];
+    assert_eq!(read_log(b"07\n-\n000,007,031\n", &mut words), 3);
+    assert_eq!(words, [1 << 7, 0, 1 | 1 << 7 | 1 << 31, 9]);
+    for (text, no) in [(&b"7,07\n"[..], 26), (b"0007\n", 24), (b"032\n", 25)] {
+        assert_eq!(read_log(text, &mut words), refusal(no, 1), "{:?}", String::from_utf8_lossy(text));
+    }
+    assert_eq!(words, [1 << 7, 0, 1 | 1 << 7 | 1 << 31, 9]);
 }
 
 #[test]

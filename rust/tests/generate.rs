@@ -174,6 +174,30 @@ pub fn log_text(words: &[u32]) -> String {
     text
 }
 
+/// A text; every second one with zeros before some of its numbers, now and then to four digits, which make no number.
+pub fn perhaps_padded(random: &mut Random, text: &str) -> String {
+    if random.one_in(2) {
+        return text.to_string();
+    }
+    text.split_inclusive([',', '\n']).map(|field| padded(random, field)).collect()
+}
+
+/// A field and the byte that ends it, perhaps with zeros before it where it is a number.
+fn padded(random: &mut Random, field: &str) -> String {
+    let digits = field.trim_end_matches([',', '\n']).len();
+    let is_number = digits > 0 && field.as_bytes()[..digits].iter().all(u8::is_ascii_digit);
+    let wanted = match random.below(200) {
+        0 => 4,
+        1..=80 => 2 + random.below(2),
+        _ => 0,
+    };
+    if is_number {
+        "0".repeat(wanted.saturating_sub(digits)) + field
+    } else {
+        field.to_string()
+    }
+}
+
 /// A text with a few bytes or lines changed, or cut short; one in four is left as it is.
 pub fn perhaps_damaged(random: &mut Random, text: String) -> Vec<u8> {
     let mut bytes = text.into_bytes();

@@ -18,18 +18,20 @@ use compare::parts::{compare_part, compare_run, Part};
 use compare::texts::{compare_log, compare_sheet};
 use compare::walks::compare_walk;
 use compare::Table;
-use generate::{largest_sheet, log, log_text, perhaps_damaged, perhaps_damaged_table, sheet, Looks, Random};
+use generate::{largest_sheet, log, log_text, perhaps_damaged, perhaps_damaged_table, perhaps_padded, sheet, Looks, Random};
 use kinds::Kinds;
 use rozsvelen::PAGE;
 
 fn sheet_case(random: &mut Random, kinds: &mut Kinds) {
     let text = sheet(random, Looks::Both);
+    let text = perhaps_padded(random, &text);
     compare_sheet(kinds, &perhaps_damaged(random, text));
 }
 
 fn log_case(random: &mut Random, kinds: &mut Kinds) {
     let entries = 1 + random.below(12);
     let text = log_text(&log(random, entries));
+    let text = perhaps_padded(random, &text);
     let room = if random.one_in(6) { random.below(entries) } else { entries + random.below(4) };
     compare_log(kinds, &perhaps_damaged(random, text), room);
 }
@@ -38,6 +40,7 @@ fn page_case(random: &mut Random, kinds: &mut Kinds) {
     let rules = sheet(random, Looks::Both);
     let entries = 1 + random.below(12);
     let steps = log_text(&log(random, entries));
+    let [rules, steps] = [rules, steps].map(|text| perhaps_padded(random, &text));
     let rules = if random.one_in(3) { perhaps_damaged(random, rules) } else { rules.into_bytes() };
     let steps = if random.one_in(3) { perhaps_damaged(random, steps) } else { steps.into_bytes() };
     let room = if random.one_in(20) { random.below(PAGE + 2) } else { random.below(150) };

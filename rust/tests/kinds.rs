@@ -15,13 +15,17 @@ const REFUSALS: [(&str, &[u8]); 9] = [
     ("page_in", &[44]),
 ];
 
-const OTHERS: [&str; 63] = [
+const OTHERS: [&str; 69] = [
     "read_sheet: read",
     "read_sheet: cut short within a line",
     "read_sheet: a byte above 127",
+    "read_sheet: read with a padded number",
+    "read_sheet: 4 of a padded number of four digits",
     "read_log: read",
     "read_log: cut short within a line",
     "read_log: a byte above 127",
+    "read_log: read with a padded number",
+    "read_log: 24 of a padded number of four digits",
     "read_log: places beyond the words kept",
     "judge: sheet looks ahead",
     "judge: sheet looks back",
@@ -76,6 +80,8 @@ const OTHERS: [&str; 63] = [
     "walk: 37 of a number above 65535",
     "page: with a walk",
     "page: without a walk",
+    "page: verdicts of a padded sheet",
+    "page: verdicts of a padded log",
     "page: of 512 entries and 8191 edges",
     "page_in: as many bytes as the page has",
     "page_in: bytes beyond the page kept",

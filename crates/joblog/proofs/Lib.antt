@@ -7,6 +7,7 @@ pub mod Places
 pub mod LineByLine
 pub mod Storing
 pub mod Questions
+pub mod Padded
 pub mod Worked
 pub mod Answers
 pub mod Told

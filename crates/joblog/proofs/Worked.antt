@@ -19,16 +19,19 @@ unfoldable pub dashes : ℕ → List ℕ
 dashes zero = []
 dashes (suc n) = 45 ∷ 10 ∷ dashes n
 
--- `0` `1` `2` `-`; `0,31`; nothing; `1,1`; `32,1`; `32,x`; `-` `07`; `-` and an empty line; `3,`; `-,1`; two entries and one word; 513 entries
+-- `0` `1` `2` `-`; `0,31`; `07` `-` `00,007,031`; nothing; `1,1`; `7,07`; `32,1`; `32,x`; `-` `0007`; `-` and an empty line; `3,`; `-,1`; two entries and one word;
+-- 513 entries
 abbrev pub examples : List Example
 examples =
     record { text = 48 ∷ 10 ∷ 49 ∷ 10 ∷ 50 ∷ 10 ∷ 45 ∷ 10 ∷ []; room = 4; gives = entries (1 ∷ 2 ∷ 4 ∷ 0 ∷ []) }
     ∷ record { text = 48 ∷ 44 ∷ 51 ∷ 49 ∷ 10 ∷ []; room = 4; gives = entries (2147483649 ∷ []) }
+    ∷ record { text = 48 ∷ 55 ∷ 10 ∷ 45 ∷ 10 ∷ 48 ∷ 48 ∷ 44 ∷ 48 ∷ 48 ∷ 55 ∷ 44 ∷ 48 ∷ 51 ∷ 49 ∷ 10 ∷ []; room = 4; gives = entries (128 ∷ 0 ∷ 2147483777 ∷ []) }
     ∷ record { text = []; room = 4; gives = refused 22 0 }
     ∷ record { text = 49 ∷ 44 ∷ 49 ∷ 10 ∷ []; room = 4; gives = refused 26 1 }
+    ∷ record { text = 55 ∷ 44 ∷ 48 ∷ 55 ∷ 10 ∷ []; room = 4; gives = refused 26 1 }
     ∷ record { text = 51 ∷ 50 ∷ 44 ∷ 49 ∷ 10 ∷ []; room = 4; gives = refused 25 1 }
     ∷ record { text = 51 ∷ 50 ∷ 44 ∷ 120 ∷ 10 ∷ []; room = 4; gives = refused 24 1 }
-    ∷ record { text = 45 ∷ 10 ∷ 48 ∷ 55 ∷ 10 ∷ []; room = 4; gives = refused 24 2 }
+    ∷ record { text = 45 ∷ 10 ∷ 48 ∷ 48 ∷ 48 ∷ 55 ∷ 10 ∷ []; room = 4; gives = refused 24 2 }
     ∷ record { text = 45 ∷ 10 ∷ 10 ∷ []; room = 4; gives = refused 24 2 }
     ∷ record { text = 51 ∷ 44 ∷ 10 ∷ []; room = 4; gives = refused 24 1 }
     ∷ record { text = 45 ∷ 44 ∷ 49 ∷ 10 ∷ []; room = 4; gives = refused 24 1 }
@@ -38,4 +41,4 @@ examples =
 
 pub all-give : AllGive examples
 unfolding dashes readLog readLines factsOf allBelow rising wordOf pieces lines number digits addDigit
-all-give = (refl, (refl, (refl, (refl, (refl, (refl, (refl, (refl, (refl, (refl, (refl, (refl, tt))))))))))))
+all-give = (refl, (refl, (refl, (refl, (refl, (refl, (refl, (refl, (refl, (refl, (refl, (refl, (refl, (refl, tt))))))))))))))

@@ -25,4 +25,5 @@ pub mod Peel
 pub mod Decided
 pub mod Question31
 pub mod Facts
+pub mod Padded
 pub mod Worked

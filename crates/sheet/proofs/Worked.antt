@@ -3,7 +3,7 @@ use Prim.Native.Nat.{ℕ}
 use mathlib.Core.Path.{_≡_, refl}
 use mathlib.Core.List.{List, [], _∷_}
 use mathlib.Core.Bool.{true, false}
-use lib.ListN.{replicate}
+use lib.ListN.{replicate, set}
 use Rattle.aldlf.specs.Constants.{letterT, letterP, letterD}
 use Rattle.aldlf.specs.Sheet.{noLine, noEdge, noAutomaton}
 use Rattle.aldlf.specs.declared.Table.{Table}
@@ -38,15 +38,33 @@ pub empty-not-given : wellFormed emptyTable ≡ false
 unfolding wellFormed usedFits
 empty-not-given = refl
 
--- an empty sheet; `P,07`; `P,32`; `P,31`
+-- an empty sheet
 pub empty-2 : readSheet [] ≡ refused 2 0
 unfolding readSheet
 empty-2 = refl
 
-pub leading-zero-4 : readSheet (80 ∷ 44 ∷ 48 ∷ 55 ∷ 10 ∷ []) ≡ refused 4 1
-unfolding readSheet readLines question parsed knownLine allNumbers roomLeft belongs inRange newlyAccepting plainStep lines pieces number digits addDigit
-leading-zero-4 = refl
+-- the table whose one node is fact 7
+abbrev table7 : Table
+table7 =
+    record {
+      nodes = set (emptyTable .nodes) 0 (record { kind = letterP; a = 7; b = 0 });
+      automata = emptyTable .automata;
+      edges = emptyTable .edges;
+      used = record { nodes = 1; automata = 0; edges = 0 };
+    }
 
+-- `P,7`, `P,07` and `P,007` are fact 7
+pub padded-7 : (readSheet (80 ∷ 44 ∷ 55 ∷ 10 ∷ []) ≡ accepted table7) × (readSheet (80 ∷ 44 ∷ 48 ∷ 55 ∷ 10 ∷ []) ≡ accepted table7)
+    × (readSheet (80 ∷ 44 ∷ 48 ∷ 48 ∷ 55 ∷ 10 ∷ []) ≡ accepted table7)
+unfolding readSheet readLines finish question added withLine withNode parsed knownLine allNumbers roomLeft belongs inRange newlyAccepting plainStep whole lines pieces number digits addDigit
+padded-7 = (refl, refl, refl)
+
+-- `P,0007`
+pub four-digits-4 : readSheet (80 ∷ 44 ∷ 48 ∷ 48 ∷ 48 ∷ 55 ∷ 10 ∷ []) ≡ refused 4 1
+unfolding readSheet readLines question parsed knownLine allNumbers roomLeft belongs inRange newlyAccepting plainStep lines pieces number digits addDigit
+four-digits-4 = refl
+
+-- `P,32`; `P,31`
 pub fact-7 : readSheet (80 ∷ 44 ∷ 51 ∷ 50 ∷ 10 ∷ []) ≡ refused 7 1
 unfolding readSheet readLines question parsed knownLine allNumbers roomLeft belongs inRange newlyAccepting plainStep lines pieces number digits addDigit
 fact-7 = refl

@@ -9,7 +9,7 @@ use aldlf::State;
 use aldlf::Table;
 use aldlf::Used;
 
-// Prints whether some sheet gives a sheet's table, or that table with a change; of a refused sheet's also what it holds.
+// Prints whether some sheet gives a sheet's table, or that table with a change; of one that is read also what it holds.
 pub(crate) fn tried(line: &[u8]) {
     let a = super::answer(line);
     let t = a.table;

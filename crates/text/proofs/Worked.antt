@@ -3,6 +3,8 @@ use Prim.Native.Nat.{ℕ}
 use mathlib.Core.List.{List, [], _∷_}
 use mathlib.Core.Bool.{true, false}
 use mathlib.Core.Path.{_≡_, refl}
+use native.Mathlib.Omega.{arith}
+use Rattle.text.specs.Padded.{TextPadded, same, zeros}
 use Rattle.text.specs.Text.{notNumber, pieces, lines, fields, endsInLF, number, digits, addDigit}
 
 -- `0`, `31` and `999` are numbers
@@ -10,11 +12,25 @@ pub numbers-worked : (number (48 ∷ []) ≡ 0) × (number (51 ∷ 49 ∷ []) �
 unfolding number digits addDigit
 numbers-worked = (refl, refl, refl)
 
--- ``, `07`, `1000`, `-`, `1x` and `x1` are none
-pub not-numbers-worked : (number [] ≡ notNumber) × (number (48 ∷ 55 ∷ []) ≡ notNumber) × (number (49 ∷ 48 ∷ 48 ∷ 48 ∷ []) ≡ notNumber)
-    × (number (45 ∷ []) ≡ notNumber) × (number (49 ∷ 120 ∷ []) ≡ notNumber) × (number (120 ∷ 49 ∷ []) ≡ notNumber)
+-- so are `07`, `007`, `000` and `099`
+pub padded-worked : (number (48 ∷ 55 ∷ []) ≡ 7) × (number (48 ∷ 48 ∷ 55 ∷ []) ≡ 7) × (number (48 ∷ 48 ∷ 48 ∷ []) ≡ 0) × (number (48 ∷ 57 ∷ 57 ∷ []) ≡ 99)
 unfolding number digits addDigit
-not-numbers-worked = (refl, refl, refl, refl, refl, refl)
+padded-worked = (refl, refl, refl, refl)
+
+-- ``, `0007`, `1000`, `-`, `1x`, `x1` and `0x` are none
+pub not-numbers-worked : (number [] ≡ notNumber) × (number (48 ∷ 48 ∷ 48 ∷ 55 ∷ []) ≡ notNumber) × (number (49 ∷ 48 ∷ 48 ∷ 48 ∷ []) ≡ notNumber)
+    × (number (45 ∷ []) ≡ notNumber) × (number (49 ∷ 120 ∷ []) ≡ notNumber) × (number (120 ∷ 49 ∷ []) ≡ notNumber) × (number (48 ∷ 120 ∷ []) ≡ notNumber)
+unfolding number digits addDigit
+not-numbers-worked = (refl, refl, refl, refl, refl, refl, refl)
+
+-- the lines `P,007` and `N,00` are `P,7` and `N,0` with zeros before their numbers
+pub padded-lines-worked : TextPadded (80 ∷ 44 ∷ 55 ∷ 10 ∷ 78 ∷ 44 ∷ 48 ∷ 10 ∷ []) (80 ∷ 44 ∷ 48 ∷ 48 ∷ 55 ∷ 10 ∷ 78 ∷ 44 ∷ 48 ∷ 48 ∷ 10 ∷ [])
+unfolding lines pieces number digits addDigit
+padded-lines-worked =
+    record {
+      each = ((same refl, (zeros 2 (omega arith) (omega arith) refl, tt)), ((same refl, (zeros 1 (omega arith) (omega arith) refl, tt)), tt));
+      ends = refl;
+    }
 
 -- a text of the lines `1,2`, an empty one and `-`
 abbrev sample : List ℕ

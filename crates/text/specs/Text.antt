@@ -1,8 +1,8 @@
 -- Text to lines, fields and numbers: what sheets and logs share. A text is its list of bytes.
-use Prim.Native.Nat.{ℕ, zero, suc, _+_, _*_, _-_, _≤_}
+use Prim.Native.Nat.{ℕ, suc, _+_, _*_, _-_, _≤_}
 use mathlib.Core.Path.{_≡_}
 use mathlib.Core.List.{List, [], _∷_}
-use mathlib.Core.Bool.{Bool, cond, not, _&&_, _||_}
+use mathlib.Core.Bool.{Bool, cond, _&&_}
 use lib.ListN.{length, getD, take, drop}
 use lib.Dec.{ltb, leb, eqb}
 use Rattle.text.specs.declared.Cut.{Cut}
@@ -68,15 +68,11 @@ unfoldable pub digits : ℕ → List ℕ → ℕ
 digits v [] = v
 digits v (b ∷ bs) = digits (addDigit v b) bs
 
--- no leading zero except `0` itself
-abbrev pub noLeadingZero : List ℕ → Bool
-noLeadingZero l = leb (length l) 1 || not (eqb (getD l 0 0) 48)
-
--- one to three bytes, no leading zero
+-- one to three bytes
 abbrev pub numberShape : List ℕ → Bool
-numberShape l = leb 1 (length l) && leb (length l) 3 && noLeadingZero l
+numberShape l = leb 1 (length l) && leb (length l) 3
 
--- the number that a field is
+-- the number that a field is: one to three digits, zeros in front or not
 unfoldable pub number : List ℕ → ℕ
 number l = cond (numberShape l) (digits 0 l) notNumber
 

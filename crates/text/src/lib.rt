@@ -70,7 +70,7 @@ pub fn cut_field(s: &[u8]) -> Cut
     Cut { end: n, value: v }
 }
 
-// The number that a field is: one to three digits, no leading zero except `0` itself; else NOT_NUMBER.
+// The number that a field is: one to three digits, zeros in front or not; else NOT_NUMBER.
 pub fn read_number(s: &[u8]) -> u16
     ensures { λ r. ⌜ (r ≡ number (now (s .entry))) × (r ≤ notNumber) ⌝ }
 {
@@ -86,21 +86,12 @@ pub fn read_number(s: &[u8]) -> u16
     v
 }
 
-// One to three bytes, the first no `0` unless it stands alone.
+// One to three bytes.
 fn number_shape(s: &[u8]) -> bool
     ensures { λ r. ⌜ r ≡ numberShape (now (s .entry)) ⌝ }
 {
     let n = s.len();
-    if n == 0 {
-        return false;
-    }
-    if 3 < n {
-        return false;
-    }
-    if n == 1 {
-        return true;
-    }
-    s[0] != b'0'
+    (1 <= n) & (n <= 3)
 }
 
 // A digit more on a number below 100; NOT_NUMBER where that is no number.

@@ -15,7 +15,7 @@ fn field(s: &[u8], mut p: usize) -> (u32, usize) {
             return (d0, p + 1);
         }
         let d1 = b1.wrapping_sub(b'0') as u32;
-        if d0 > 0 && d1 < 10 {
+        if d1 < 10 {
             let b2 = s[p + 2];
             if b2 == b',' || b2 == b'\n' {
                 return (10 * d0 + d1, p + 2);

@@ -8,10 +8,10 @@ pub mod sheets;
 /// A refusal: number and line.
 pub type No = (u8, u32);
 
-/// The number that a field is: one to three digits, no leading zero except `0` itself.
+/// The number that a field is: one to three digits, zeros in front or not.
 pub fn number(field: &[u8]) -> Option<u32> {
     let text = std::str::from_utf8(field).ok()?;
-    let fits = (1..=3).contains(&text.len()) && text.bytes().all(|b| b.is_ascii_digit()) && (text == "0" || !text.starts_with('0'));
+    let fits = (1..=3).contains(&text.len()) && text.bytes().all(|b| b.is_ascii_digit());
     fits.then(|| text.parse().unwrap())
 }
 

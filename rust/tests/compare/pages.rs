@@ -1,5 +1,6 @@
 //! Pages, in a buffer that takes every page and in one of a given length.
 use super::no;
+use super::texts::has_padded;
 use crate::checker::pages;
 use crate::kinds::Kinds;
 
@@ -16,6 +17,8 @@ pub fn compare_page(kinds: &mut Kinds, rules: &[u8], steps: &[u8], room: usize) 
         Err((q, _)) => kinds.refused("page", q),
         Ok(text) => {
             kinds.saw(if text.ends_with("walk,none\n") { "page: without a walk" } else { "page: with a walk" });
+            kinds.saw_if(has_padded(rules, 2..=3), "page: verdicts of a padded sheet");
+            kinds.saw_if(has_padded(steps, 2..=3), "page: verdicts of a padded log");
             kinds.saw_if(text.contains(",of,512\nwalk,8191,"), "page: of 512 entries and 8191 edges");
         }
     }

@@ -3,10 +3,16 @@ use super::no;
 use crate::checker::{logs, sheets};
 use crate::kinds::Kinds;
 use rozsvelen::Sheet;
+use std::ops::RangeInclusive;
 
 fn kinds_of_text(kinds: &mut Kinds, call: &str, text: &[u8]) {
     kinds.saw_if(text.last().is_some_and(|b| *b != b'\n'), &format!("{call}: cut short within a line"));
     kinds.saw_if(text.iter().any(|b| *b > 127), &format!("{call}: a byte above 127"));
+}
+
+/// Whether a field of the text is a number with a zero before it, of so many digits in all.
+pub fn has_padded(text: &[u8], digits: RangeInclusive<usize>) -> bool {
+    text.split(|b| b",\n".contains(b)).any(|f| digits.contains(&f.len()) && f[0] == b'0' && f.iter().all(u8::is_ascii_digit))
 }
 
 pub fn compare_sheet(kinds: &mut Kinds, text: &[u8]) {
@@ -15,8 +21,14 @@ pub fn compare_sheet(kinds: &mut Kinds, text: &[u8]) {
     assert_eq!(ours, theirs, "sheet {:?}", String::from_utf8_lossy(text));
     kinds_of_text(kinds, "read_sheet", text);
     match ours {
-        Ok(_) => kinds.saw("read_sheet: read"),
-        Err((q, _)) => kinds.refused("read_sheet", q),
+        Ok(_) => {
+            kinds.saw("read_sheet: read");
+            kinds.saw_if(has_padded(text, 2..=3), "read_sheet: read with a padded number");
+        }
+        Err((q, _)) => {
+            kinds.refused("read_sheet", q);
+            kinds.saw_if(q == 4 && has_padded(text, 4..=4), "read_sheet: 4 of a padded number of four digits");
+        }
     }
 }
 
@@ -32,8 +44,12 @@ pub fn compare_log(kinds: &mut Kinds, text: &[u8], room: usize) {
     match ours {
         Ok(n) => {
             kinds.saw("read_log: read");
+            kinds.saw_if(has_padded(text, 2..=3), "read_log: read with a padded number");
             kinds.saw_if(n < room, "read_log: places beyond the words kept");
         }
-        Err((q, _)) => kinds.refused("read_log", q),
+        Err((q, _)) => {
+            kinds.refused("read_log", q);
+            kinds.saw_if(q == 24 && has_padded(text, 4..=4), "read_log: 24 of a padded number of four digits");
+        }
     }
 }
