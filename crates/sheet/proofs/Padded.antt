@@ -10,7 +10,7 @@ use borrow.Author.Tests.{ne-eqb, le-leb}
 use Rattle.aldlf.specs.Constants.{letterT, letterF, letterP, letterN, letterA, letterO, letterD, letterB, letterM, letterG, letterE}
 use Rattle.text.specs.Text.{byteLimit, notNumber, lines, fields, number}
 use Rattle.text.specs.Padded.{FieldPadded, same, zeros, Paired, LinePadded, TextPadded}
-use Rattle.text.proofs.Numbers.{number-some, number-digit}
+use Rattle.text.proofs.Digits.{number-some, number-digit}
 use Rattle.text.proofs.Padded.{field-number, paired-length}
 use Rattle.sheet.specs.declared.build.Reading.{Reading}
 use Rattle.sheet.specs.Questions.{letterOf, parsed, arity, knownLine, question, added, start, refused, readLines, readSheet}

@@ -1,4 +1,5 @@
 pub mod Numbers
+pub mod Digits
 pub mod Padded
 pub mod Pieces
 pub mod Lines

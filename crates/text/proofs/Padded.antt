@@ -6,7 +6,7 @@ use native.Mathlib.Omega.{arith}
 use lib.ListN.{length, replicate, length-append, length-replicate}
 use borrow.Author.Tests.{le-leb}
 use Rattle.text.specs.Text.{number, digits, addDigit}
-use Rattle.text.proofs.Numbers.{number-some}
+use Rattle.text.proofs.Digits.{number-some}
 use Rattle.text.specs.Padded.{FieldPadded, same, zeros, Paired}
 
 -- zeros before the other digits leave the value to those
