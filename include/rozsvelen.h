@@ -3,8 +3,8 @@
  * Every function answers one number. Its low 16 bits are a count or length, the next 16 the number of the question that got a no
  * (0: accepted), and its upper 32 bits the line that the question is about (from 1; 0 for questions not about a line),
  * or the log where a list of logs is judged.
- * A refusal alters nothing that was lent. The questions and their numbers are those of the rule sheet's description, and three of the
- * boundary's own:
+ * A refusal alters nothing that was lent. The questions about texts and their numbers stand in docs/SHEETS.md and docs/LOGS.md, those about
+ * judging and walks in document 01; three are the boundary's own:
  *   35  a table or row to be written has its fixed length. Asked first.
  *   43  a way is ROZSVELEN_AHEAD or ROZSVELEN_BACK. Asked after 35.
  *   44  a page fits in the lent bytes.
