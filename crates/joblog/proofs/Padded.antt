@@ -12,6 +12,7 @@ use Rattle.aldlf.proofs.Bools.{and-left, and-right}
 use borrow.Author.Tests.{ne-eqb, eqb-true, le-leb}
 use Rattle.text.specs.Text.{byteLimit, notNumber, comma, lines, fields, pieces, upTo, number, digits, addDigit}
 use Rattle.text.specs.Padded.{FieldPadded, same, zeros, Paired, LinePadded, TextPadded}
+use Rattle.text.proofs.PaddedLength.{padded-length}
 use Rattle.text.proofs.Padded.{field-number, paired-length}
 use Rattle.text.proofs.Pieces.{upTo-le, pieces-last, pieces-more, pieces-some}
 use Rattle.joblog.specs.Log.{numbers, lone, factsOf, readLines, readLog}
@@ -88,7 +89,7 @@ lines-same (l ∷ ls) [] h k = absurd h
 lines-same (l ∷ ls) (m ∷ ms) (p, h) k = rw (facts-same l m p, lines-same ls ms h (k + 1))
 
 -- a log with zeros before its facts reads as the log without them, whatever room is lent
-pub padded-log : (text again : List ℕ) → TextPadded text again → length text ≤ byteLimit → length again ≤ byteLimit → (room : ℕ) → readLog again room ≡ readLog text room
+pub padded-log : (text again : List ℕ) → TextPadded text again → length again ≤ byteLimit → (room : ℕ) → readLog again room ≡ readLog text room
 unfolding readLog
-padded-log text again p h h′ room =
-    rw (le-leb (length text) byteLimit h, le-leb (length again) byteLimit h′, p .ends, lines-same (lines text) (lines again) (p .each) 0)
+padded-log text again p h room =
+    rw (le-leb (length text) byteLimit (omega (arith, padded-length text again p)), le-leb (length again) byteLimit h, p .ends, lines-same (lines text) (lines again) (p .each) 0)

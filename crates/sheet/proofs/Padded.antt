@@ -11,6 +11,7 @@ use Rattle.aldlf.specs.Constants.{letterT, letterF, letterP, letterN, letterA, 
 use Rattle.text.specs.Text.{byteLimit, notNumber, lines, fields, number}
 use Rattle.text.specs.Padded.{FieldPadded, same, zeros, Paired, LinePadded, TextPadded}
 use Rattle.text.proofs.Digits.{number-some, number-digit}
+use Rattle.text.proofs.PaddedLength.{padded-length}
 use Rattle.text.proofs.Padded.{field-number, paired-length}
 use Rattle.sheet.specs.declared.build.Reading.{Reading}
 use Rattle.sheet.specs.Questions.{letterOf, parsed, arity, knownLine, question, added, start, refused, readLines, readSheet}
@@ -80,7 +81,7 @@ lines-same (l ∷ ls) [] h r k = absurd h
 lines-same (l ∷ ls) (m ∷ ms) (p, h) r k = line-step r k (fields l) (fields m) ls ms (fields-alike (fields l) (fields m) p) (λ r′. lines-same ls ms h r′ (k + 1))
 
 -- a sheet with zeros before its numbers reads as the sheet without them
-pub padded-sheet : (text again : List ℕ) → TextPadded text again → length text ≤ byteLimit → length again ≤ byteLimit → readSheet again ≡ readSheet text
+pub padded-sheet : (text again : List ℕ) → TextPadded text again → length again ≤ byteLimit → readSheet again ≡ readSheet text
 unfolding readSheet
-padded-sheet text again p h h′ =
-    rw (le-leb (length text) byteLimit h, le-leb (length again) byteLimit h′, p .ends, lines-same (lines text) (lines again) (p .each) start 0)
+padded-sheet text again p h =
+    rw (le-leb (length text) byteLimit (omega (arith, padded-length text again p)), le-leb (length again) byteLimit h, p .ends, lines-same (lines text) (lines again) (p .each) start 0)

@@ -68,13 +68,14 @@ unfolding upTo pieces
 pieces-more sep [] h = absurd (omega arith)
 pieces-more sep (b ∷ bs) h = more-go sep b bs (upTo sep bs) (pieces-more sep bs) (eqb b sep) h
 
-some-go : (b : ℕ) (ps : List (List ℕ)) → 1 ≤ length ps → (t : Bool) → 1 ≤ length (cond t ([] ∷ ps) (glue b ps))
-some-go b ps h true = omega arith
-some-go b [] h false = omega arith
-some-go b (p ∷ ps) h false = omega arith
+-- with a byte more there is a piece at least
+pub piece-some : (b : ℕ) (ps : List (List ℕ)) (t : Bool) → 1 ≤ length (cond t ([] ∷ ps) (glue b ps))
+piece-some b ps true = omega arith
+piece-some b [] false = omega arith
+piece-some b (p ∷ ps) false = omega arith
 
--- there is a piece at least
+-- and so there always is
 pub pieces-some : (sep : ℕ) (l : List ℕ) → 1 ≤ length (pieces sep l)
 unfolding pieces
 pieces-some sep [] = omega arith
-pieces-some sep (b ∷ bs) = some-go b (pieces sep bs) (pieces-some sep bs) (eqb b sep)
+pieces-some sep (b ∷ bs) = piece-some b (pieces sep bs) (eqb b sep)
