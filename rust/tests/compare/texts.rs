@@ -15,6 +15,11 @@ pub fn has_padded(text: &[u8], digits: RangeInclusive<usize>) -> bool {
     text.split(|b| b",\n".contains(b)).any(|f| digits.contains(&f.len()) && f[0] == b'0' && f.iter().all(u8::is_ascii_digit))
 }
 
+/// The line of a text that a refusal names.
+fn named(text: &[u8], line: u32) -> &[u8] {
+    text.split(|b| *b == b'\n').nth(line as usize - 1).unwrap()
+}
+
 pub fn compare_sheet(kinds: &mut Kinds, text: &[u8]) {
     let ours = Sheet::read(text).map(|s| *s.numbers()).map_err(no);
     let theirs = sheets::read(text).map(|s| s.numbers());
@@ -25,9 +30,9 @@ pub fn compare_sheet(kinds: &mut Kinds, text: &[u8]) {
             kinds.saw("read_sheet: read");
             kinds.saw_if(has_padded(text, 2..=3), "read_sheet: read with a padded number");
         }
-        Err((q, _)) => {
+        Err((q, line)) => {
             kinds.refused("read_sheet", q);
-            kinds.saw_if(q == 4 && has_padded(text, 4..=4), "read_sheet: 4 of a padded number of four digits");
+            kinds.saw_if(q == 4 && has_padded(named(text, line), 4..=4), "read_sheet: 4 of a padded number of four digits");
         }
     }
 }
@@ -47,9 +52,9 @@ pub fn compare_log(kinds: &mut Kinds, text: &[u8], room: usize) {
             kinds.saw_if(has_padded(text, 2..=3), "read_log: read with a padded number");
             kinds.saw_if(n < room, "read_log: places beyond the words kept");
         }
-        Err((q, _)) => {
+        Err((q, line)) => {
             kinds.refused("read_log", q);
-            kinds.saw_if(q == 24 && has_padded(text, 4..=4), "read_log: 24 of a padded number of four digits");
+            kinds.saw_if(q == 24 && has_padded(named(text, line), 4..=4), "read_log: 24 of a padded number of four digits");
         }
     }
 }
