@@ -1,8 +1,8 @@
 /* Rozsvelen: a proved rule checker for job logs. Link with libexports.a (`rt staticlib exports`).
  *
- * Every function answers one number. Its low 16 bits are a count or length, the next 16 the number of the question that got a no
- * (0: accepted), and its upper 32 bits the line that the question is about (from 1; 0 for questions not about a line),
- * or the log where a list of logs is judged.
+ * Every function answers one number of four parts, 16 bits each, from the low bits up: a count or length; the number of the question that
+ * got a no (0: accepted); the line that the question is about (from 1; 0 for questions not about a line); and what a function gives besides
+ * (each says what; else 0). Where a list of logs is judged, the upper 32 bits are the log that the question is about.
  * A refusal alters nothing that was lent. The questions about texts and their numbers stand in docs/SHEETS.md and docs/LOGS.md, those about
  * judging and walks in document 01; three are the boundary's own:
  *   35  a table or row to be written has its fixed length. Asked first.
@@ -36,7 +36,11 @@ extern "C" {
 /* The parts of an answer. */
 static inline uint32_t rozsvelen_count(uint64_t answer) { return (uint32_t)(answer & 0xffff); }
 static inline uint32_t rozsvelen_number(uint64_t answer) { return (uint32_t)(answer >> 16 & 0xffff); }
-static inline uint32_t rozsvelen_line(uint64_t answer) { return (uint32_t)(answer >> 32); }
+static inline uint32_t rozsvelen_line(uint64_t answer) { return (uint32_t)(answer >> 32 & 0xffff); }
+static inline uint32_t rozsvelen_extra(uint64_t answer) { return (uint32_t)(answer >> 48); }
+
+/* The log that an answer of rozsvelen_judge_logs is about, in place of line and extra: it can be 65,536, which 16 bits do not hold. */
+static inline uint32_t rozsvelen_log(uint64_t answer) { return (uint32_t)(answer >> 32); }
 
 /* Reads a rule sheet's text into a table of ROZSVELEN_TABLE numbers. Questions 35, then 1 to 11. Stack: 16 KB. */
 uint64_t rozsvelen_read_sheet(const uint8_t *text, size_t text_len, uint16_t *table, size_t table_len);
@@ -52,8 +56,8 @@ uint64_t rozsvelen_judge(const uint16_t *table, size_t table_len, const uint32_t
 /* Judges a list of logs of one sheet. Their words stand one after the other; lengths says how many entries each log has. The verdict words
  * stand likewise in the first places of verdicts, and each log's count of entries at which the rule holds in those of held. Question 31;
  * 32 of each log in turn: it is among the first 65,535, has 1 to ROZSVELEN_ENTRIES entries, and they are among the words; words left over are
- * about the log after the last; 33 of each log in turn: it has room in verdicts and in held. A refusal's line is the log, from 1 (31: 0).
- * A list of no logs and no words is accepted. Stack: 72 KB. */
+ * about the log after the last; 33 of each log in turn: it has room in verdicts and in held. rozsvelen_log of a refusal is the log,
+ * from 1 (31: 0). A list of no logs and no words is accepted. Stack: 72 KB. */
 uint64_t rozsvelen_judge_logs(const uint16_t *table, size_t table_len, const uint32_t *words, size_t words_len, const uint16_t *lengths,
                               size_t lengths_len, uint64_t *verdicts, size_t verdicts_len, uint16_t *held, size_t held_len);
 

@@ -1,5 +1,5 @@
-/* What only a caller in C can do or see: empty slices at NULL, and the stack that each call takes; and numbers with zeros before them, read
- * through the C calls. Ends in 'N passed, M failed'. */
+/* What only a caller in C can do or see: the parts of an answer, empty slices at NULL, and the stack that each call takes; and numbers with
+ * zeros before them, read through the C calls. Ends in 'N passed, M failed'. */
 #include "rozsvelen.h"
 
 #include <pthread.h>
@@ -93,6 +93,22 @@ static void takes(const char *name, void (*call)(void), uint64_t wanted, size_t 
 
 static uint64_t refused(uint64_t number) { return number << 16; }
 
+/* Each part of an answer is taken from its own bits, and a list's log from the bits of two. */
+static void answer_parts(void) {
+    enum { LOGS = 65536 };
+    static uint32_t entries[LOGS];
+    static uint16_t lengths[LOGS];
+    const uint64_t parts = 0xfff4fff3fff2fff1;
+    check("count of an answer", rozsvelen_count(parts) == 0xfff1);
+    check("number of an answer", rozsvelen_number(parts) == 0xfff2);
+    check("line of an answer", rozsvelen_line(parts) == 0xfff3);
+    check("extra of an answer", rozsvelen_extra(parts) == 0xfff4);
+    check("log of an answer", rozsvelen_log(parts) == 0xfff4fff3);
+    for (int i = 0; i < LOGS; i++) lengths[i] = 1;
+    uint64_t last = rozsvelen_judge_logs(table, ROZSVELEN_TABLE, entries, LOGS, lengths, LOGS, NULL, 0, NULL, 0);
+    check("log 65,536 of a list", rozsvelen_number(last) == 32 && rozsvelen_log(last) == LOGS && rozsvelen_count(last) == 0);
+}
+
 /* Every slice empty and at NULL, one at a time and all at once. */
 static void empty_slices(void) {
     enum { T = ROZSVELEN_TABLE, R = ROZSVELEN_ROW, N = ROZSVELEN_ENTRIES };
@@ -160,6 +176,7 @@ int main(void) {
     takes("page", whole_page, BYTES, 176);
     takes("page, a byte less", page_less_one, BYTES, 176);
     takes("page in 1023 bytes", short_page, refused(44), 176);
+    answer_parts();
     empty_slices();
     padded_numbers();
     printf("%d passed, %d failed\n", passed, failed);

@@ -2,13 +2,18 @@
 use crate::calls::*;
 use crate::{Refused, Way, ROW, TABLE};
 
-/// An answer's number: a count or length in the low 16 bits, the refusal's number in the next 16, its line above.
+/// An answer's number: a count or length in the low 16 bits, the refusal's number in the next 16, its line in the next 16.
 fn answer(code: u64) -> Result<usize, Refused> {
+    answer_about(code, (code >> 32 & 0xffff) as u32)
+}
+
+/// An answer's number, whose refusal is about the given line or log.
+fn answer_about(code: u64, line: u32) -> Result<usize, Refused> {
     let number = (code >> 16 & 0xffff) as u8;
     if number == 0 {
         Ok((code & 0xffff) as usize)
     } else {
-        Err(Refused { number, line: (code >> 32) as u32 })
+        Err(Refused { number, line })
     }
 }
 
@@ -25,7 +30,7 @@ pub fn judge(table: &[u16; TABLE], log: &[u32], verdicts: &mut [u64]) -> Result<
 }
 
 pub fn judge_logs(table: &[u16; TABLE], words: &[u32], lengths: &[u16], verdicts: &mut [u64], held: &mut [u16]) -> Result<(), Refused> {
-    answer(unsafe {
+    let code = unsafe {
         rozsvelen_judge_logs(
             table.as_ptr(),
             table.len(),
@@ -38,7 +43,9 @@ pub fn judge_logs(table: &[u16; TABLE], words: &[u32], lengths: &[u16], verdicts
             held.as_mut_ptr(),
             held.len(),
         )
-    })?;
+    };
+    // a log's number can be 65,536: it takes all 32 upper bits
+    answer_about(code, (code >> 32) as u32)?;
     Ok(())
 }
 

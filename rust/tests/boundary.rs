@@ -9,7 +9,7 @@ use calls::*;
 
 const W: &[u8] = b"T\nP,1\nM,1,0\nG,0\nE,0,1,0,0\nD,0,1\n";
 
-/// An answer without a count: the question's number and line.
+/// An answer without a count: the question's number and line, or the log of a list.
 fn refusal(number: u64, line: u64) -> u64 {
     65536 * number + (line << 32)
 }
@@ -151,6 +151,7 @@ fn many_logs_are_asked_31_then_32_then_33() {
     assert_eq!((verdicts, held), ([9; 3], [7; 2]));
     assert_eq!(judge_logs(&table(), &[2, 0], &[1, 1], &mut verdicts, &mut held), 0);
     assert_eq!((verdicts, held), ([0b111, 0b001, 9], [1, 0]));
+    assert_eq!(judge_logs(&table(), &[2; 65536], &[1; 65536], &mut [], &mut []), refusal(32, 65536), "a log takes more than a line's 16 bits");
 }
 
 #[test]

@@ -1,10 +1,23 @@
--- No two answers are one number: the count, the question's number and the line can be read from it.
-use Prim.Native.Nat.{ℕ, _<_}
+-- No two answers are one number: the count, the question's number, the line and what is given besides can be read from it; of a list, the question's number and the log.
+use Prim.Native.Nat.{ℕ, _/_, _%_, _<_}
 use mathlib.Core.Path.{_≡_}
 use native.Mathlib.Omega.{arith}
 use Rattle.exports.specs.Answers.{answerCode}
+use Rattle.exports.specs.Lists.{listCode}
 
-pub answer-apart : (number line count number′ line′ count′ : ℕ) → number < 65536 → count < 65536 → number′ < 65536 → count′ < 65536
-    → answerCode number line count ≡ answerCode number′ line′ count′ → (number ≡ number′) × (line ≡ line′) × (count ≡ count′)
+pub answer-apart : (number line count extra number′ line′ count′ extra′ : ℕ)
+    → number < 65536 → line < 65536 → count < 65536 → extra < 65536 → number′ < 65536 → line′ < 65536 → count′ < 65536 → extra′ < 65536
+    → answerCode number line count extra ≡ answerCode number′ line′ count′ extra′ → (number ≡ number′) × (line ≡ line′) × (count ≡ count′) × (extra ≡ extra′)
 unfolding answerCode
-answer-apart number line count number′ line′ count′ n c n′ c′ e = (omega arith, omega arith, omega arith)
+answer-apart number line count extra number′ line′ count′ extra′ n l c x n′ l′ c′ x′ e = (omega arith, omega arith, omega arith, omega arith)
+
+pub list-apart : (number log number′ log′ : ℕ) → number < 65536 → number′ < 65536 → listCode number log ≡ listCode number′ log′ → (number ≡ number′) × (log ≡ log′)
+unfolding listCode
+list-apart number log number′ log′ n n′ e =
+    let same : log ≡ log′ = omega arith in
+    (omega arith, same)
+
+-- a list's answer is the answer whose line is the log's low 16 bits, and which gives the rest of the log besides
+pub list-halves : (number log : ℕ) → listCode number log ≡ answerCode number (log % 65536) 0 (log / 65536)
+unfolding answerCode listCode
+list-halves number log = omega arith

@@ -49,7 +49,7 @@ module _ (table log verdicts after : List ℕ) (t : Table) (r : Judged) (a : ℕ
 
 -- the plain row: the answer's row takes the lent row's place where it is accepted
 abbrev plainEnds : List ℕ → PartAnswer → Outcome
-plainEnds row p = outcome (answerCode (p .number) 0 0) (cond (eqb (p .number) 0) (p .row .bits) row)
+plainEnds row p = outcome (answerCode (p .number) 0 0 0) (cond (eqb (p .number) 0) (p .row .bits) row)
 
 module _ (table row : List ℕ) where
   pub plain-short : (a : ℕ) → (length row ≡ nodeLimit → ⊥) → a ≡ refusal 35 → outcome a row ≡ plainOutcome table row
@@ -67,7 +67,7 @@ module _ (table row : List ℕ) where
   plain-ends t = by-given t (wellFormed t)
 
   module _ (t : Table) (p : PartAnswer) (a : ℕ) (h : length row ≡ nodeLimit) (is : t ≡ tableOf table) (answers : p ≡ plainAnswerOf t)
-      (e : a ≡ answerCode (p .number) 0 0) where
+      (e : a ≡ answerCode (p .number) 0 0 0) where
     plain-is : plainOutcome table row ≡ plainEnds row p
     unfolding plainOutcome
     plain-is = long-is nodeLimit row (plainInto row (tableOf table)) h ∙ ap (plainInto row) (sym is) ∙ plain-ends t ∙ ap (plainEnds row) (sym answers)
@@ -75,14 +75,14 @@ module _ (table row : List ℕ) where
     pub plain-refused : (p .number ≡ 0 → ⊥) → outcome a row ≡ plainOutcome table row
     plain-refused n =
         ap (λ (x : ℕ). outcome x row) e
-        ∙ ap (λ (b : Bool). outcome (answerCode (p .number) 0 0) (cond b (p .row .bits) row)) (sym (ne-eqb (p .number) 0 n))
+        ∙ ap (λ (b : Bool). outcome (answerCode (p .number) 0 0 0) (cond b (p .row .bits) row)) (sym (ne-eqb (p .number) 0 n))
         ∙ sym plain-is
 
     pub plain-given : (after : List ℕ) → p .number ≡ 0 → after ≡ p .row .bits → outcome a after ≡ plainOutcome table row
     plain-given after n f =
         ap (λ (x : ℕ). outcome x after) e
-        ∙ ap (λ (l : List ℕ). outcome (answerCode (p .number) 0 0) l) f
-        ∙ ap (λ (b : Bool). outcome (answerCode (p .number) 0 0) (cond b (p .row .bits) row)) (sym (eq-eqb (p .number) 0 n))
+        ∙ ap (λ (l : List ℕ). outcome (answerCode (p .number) 0 0 0) l) f
+        ∙ ap (λ (b : Bool). outcome (answerCode (p .number) 0 0 0) (cond b (p .row .bits) row)) (sym (eq-eqb (p .number) 0 n))
         ∙ sym plain-is
 
 -- judging a part
@@ -97,7 +97,7 @@ module _ (table : List ℕ) (way : ℕ) (row words verdicts : List ℕ) where
 
   module _ (t : Table) (w : Way) (given : Row) (p : PartAnswer) (after : List ℕ) (a : ℕ) (h : length row ≡ nodeLimit) (known : isWay way ≡ true)
       (is : t ≡ tableOf table) (goes : w ≡ wayOf way) (held : given ≡ rowOf row)
-      (ends : partOf p after ≡ partOutcome (wellFormed t) w (sheetOf t) given words verdicts) (e : a ≡ answerCode (p .number) 0 0) where
+      (ends : partOf p after ≡ partOutcome (wellFormed t) w (sheetOf t) given words verdicts) (e : a ≡ answerCode (p .number) 0 0 0) where
     part-is : judgePartOutcome table way row words verdicts ≡ partJudged row (partOf p after)
     unfolding judgePartOutcome
     part-is = rw (eq-eqb (length row) nodeLimit h, known, ← is, ← goes, ← held, ← ends)
@@ -105,12 +105,12 @@ module _ (table : List ℕ) (way : ℕ) (row words verdicts : List ℕ) where
     pub part-refused : (p .number ≡ 0 → ⊥) → partEnds a row after ≡ judgePartOutcome table way row words verdicts
     part-refused n =
         ap (λ (x : ℕ). partEnds x row after) e
-        ∙ ap (λ (b : Bool). partEnds (answerCode (p .number) 0 0) (cond b (p .row .bits) row) after) (sym (ne-eqb (p .number) 0 n))
+        ∙ ap (λ (b : Bool). partEnds (answerCode (p .number) 0 0 0) (cond b (p .row .bits) row) after) (sym (ne-eqb (p .number) 0 n))
         ∙ sym part-is
 
     pub part-judged : (next : List ℕ) → p .number ≡ 0 → next ≡ p .row .bits → partEnds a next after ≡ judgePartOutcome table way row words verdicts
     part-judged next n f =
         ap (λ (x : ℕ). partEnds x next after) e
-        ∙ ap (λ (l : List ℕ). partEnds (answerCode (p .number) 0 0) l after) f
-        ∙ ap (λ (b : Bool). partEnds (answerCode (p .number) 0 0) (cond b (p .row .bits) row) after) (sym (eq-eqb (p .number) 0 n))
+        ∙ ap (λ (l : List ℕ). partEnds (answerCode (p .number) 0 0 0) l after) f
+        ∙ ap (λ (b : Bool). partEnds (answerCode (p .number) 0 0 0) (cond b (p .row .bits) row) after) (sym (eq-eqb (p .number) 0 n))
         ∙ sym part-is

@@ -13,6 +13,6 @@ module _ (rules steps page after : List ℕ) (r : PageAnswer) (ends : printedOf 
   pub page-count : r .bytes < 65536
   page-count = omega (arith, page-bytes rules steps page after r ends .1)
 
-  pub page-is : (a : ℕ) → a ≡ answerCode (r .number) 0 (r .bytes) → outcome a after ≡ pagePrinted rules steps page
+  pub page-is : (a : ℕ) → a ≡ answerCode (r .number) 0 (r .bytes) 0 → outcome a after ≡ pagePrinted rules steps page
   unfolding pagePrinted
   page-is a e = ap (λ (x : ℕ). outcome x after) e ∙ ap printed ends

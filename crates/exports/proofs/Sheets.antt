@@ -23,7 +23,7 @@ module _ (text table : List ℕ) where
   unfolding sheetOutcome
   sheet-short a h e = short-is tableSize table (readInto table (readSheet text)) a h e
 
-  module _ (s : SheetAnswer) (a : ℕ) (h : length table ≡ tableSize) (is : s ≡ readSheet text) (e : a ≡ answerCode (s .number) (s .line) 0) where
+  module _ (s : SheetAnswer) (a : ℕ) (h : length table ≡ tableSize) (is : s ≡ readSheet text) (e : a ≡ answerCode (s .number) (s .line) 0 0) where
     sheet-is : sheetOutcome text table ≡ readInto table s
     unfolding sheetOutcome
     sheet-is = long-is tableSize table (readInto table (readSheet text)) h ∙ ap (readInto table) (sym is)
@@ -31,12 +31,12 @@ module _ (text table : List ℕ) where
     pub sheet-refused : (s .number ≡ 0 → ⊥) → outcome a table ≡ sheetOutcome text table
     sheet-refused n =
         ap (λ (r : ℕ). outcome r table) e
-        ∙ ap (λ (b : Bool). outcome (answerCode (s .number) (s .line) 0) (cond b (tableNumbers (s .table)) table)) (sym (ne-eqb (s .number) 0 n))
+        ∙ ap (λ (b : Bool). outcome (answerCode (s .number) (s .line) 0 0) (cond b (tableNumbers (s .table)) table)) (sym (ne-eqb (s .number) 0 n))
         ∙ sym sheet-is
 
     pub sheet-read : (after : List ℕ) → s .number ≡ 0 → after ≡ tableNumbers (s .table) → outcome a after ≡ sheetOutcome text table
     sheet-read after n f =
         ap (λ (r : ℕ). outcome r after) e
-        ∙ ap (λ (l : List ℕ). outcome (answerCode (s .number) (s .line) 0) l) f
-        ∙ ap (λ (b : Bool). outcome (answerCode (s .number) (s .line) 0) (cond b (tableNumbers (s .table)) table)) (sym (eq-eqb (s .number) 0 n))
+        ∙ ap (λ (l : List ℕ). outcome (answerCode (s .number) (s .line) 0 0) l) f
+        ∙ ap (λ (b : Bool). outcome (answerCode (s .number) (s .line) 0 0) (cond b (tableNumbers (s .table)) table)) (sym (eq-eqb (s .number) 0 n))
         ∙ sym sheet-is

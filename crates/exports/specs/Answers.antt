@@ -9,16 +9,16 @@ use Rattle.sheet.specs.declared.SheetAnswer.{SheetAnswer}
 use Rattle.sheet.specs.Questions.{readSheet}
 use Rattle.crossing.specs.Numbers.{tableSize, tableNumbers}
 
--- the low 16 bits are the count, the next 16 the number of the question that got a no (0: accepted), the upper 32 the line
-unfoldable pub answerCode : (number line count : ℕ) → ℕ
-answerCode number line count = count + 65536 * number + 4294967296 * line
+-- bits 0 to 15 are the count, 16 to 31 the number of the question that got a no (0: accepted), 32 to 47 the line, 48 to 63 what a call gives besides (each says what; else 0)
+unfoldable pub answerCode : (number line count extra : ℕ) → ℕ
+answerCode number line count extra = count + 65536 * number + 4294967296 * line + 281474976710656 * extra
 
 -- an accepted call's answer, and a refusal's about no line
 abbrev pub accepted : ℕ → ℕ
-accepted count = answerCode 0 0 count
+accepted count = answerCode 0 0 count 0
 
 abbrev pub refusal : ℕ → ℕ
-refusal number = answerCode number 0 0
+refusal number = answerCode number 0 0 0
 
 -- a call's answer, and the lent slice that it may write as it ends
 pub record Outcome : Type 0 where
@@ -34,7 +34,7 @@ ofLength n lent rest = cond (eqb (length lent) n) rest (outcome (refusal 35) len
 
 -- a sheet as read: its number and its line; the table's numbers where it was accepted
 abbrev pub readInto : List ℕ → SheetAnswer → Outcome
-readInto table a = outcome (answerCode (a .number) (a .line) 0) (cond (eqb (a .number) 0) (tableNumbers (a .table)) table)
+readInto table a = outcome (answerCode (a .number) (a .line) 0 0) (cond (eqb (a .number) 0) (tableNumbers (a .table)) table)
 
 -- reading a sheet into a lent table
 unfoldable pub sheetOutcome : (text table : List ℕ) → Outcome
@@ -42,7 +42,7 @@ sheetOutcome text table = ofLength tableSize table (readInto table (readSheet te
 
 -- a log as read: its number, its line, and how many entries
 abbrev pub logged : LogOutcome → Outcome
-logged o = outcome (answerCode (o .number) (o .line) (o .count)) (o .buffer)
+logged o = outcome (answerCode (o .number) (o .line) (o .count) 0) (o .buffer)
 
 -- reading a log into lent words
 unfoldable pub logOutcome : (text words : List ℕ) → Outcome

@@ -16,7 +16,7 @@ use Rattle.exports.specs.Answers.{answerCode, accepted, refusal, Outcome
 
 -- judging a whole log: the count held
 abbrev pub judged : Whole → Outcome
-judged w = outcome (answerCode (w .number) 0 (w .held)) (w .buffer)
+judged w = outcome (answerCode (w .number) 0 (w .held) 0) (w .buffer)
 
 unfoldable pub judgeOutcome : (table log verdicts : List ℕ) → Outcome
 judgeOutcome table log verdicts = let t = tableOf table in judged (wholeOutcome (wellFormed t) (sheetOf t) log verdicts)
@@ -47,7 +47,7 @@ partEnds r row verdicts = record { answer = r; row = row; verdicts = verdicts }
 
 -- a part as judged: the row returned takes the row's place where it was accepted
 abbrev pub partJudged : List ℕ → Part → PartOutcome
-partJudged row p = partEnds (answerCode (p .number) 0 0) (cond (eqb (p .number) 0) (p .row .bits) row) (p .buffer)
+partJudged row p = partEnds (answerCode (p .number) 0 0 0) (cond (eqb (p .number) 0) (p .row .bits) row) (p .buffer)
 
 -- judging a part in numbers: questions 35 and 43, then those of the part
 unfoldable pub judgePartOutcome : List ℕ → ℕ → (row words verdicts : List ℕ) → PartOutcome

@@ -1,11 +1,12 @@
-// The calls for C and Rust: numbers and slices. Each answers one number (specs/Answers.antt, `answerCode`); a table crosses as
-// 1,315 numbers and a row as 64 (crossing's specs/Numbers.antt).
+// The calls for C and Rust: numbers and slices. Each answers one number (specs/Answers.antt, `answerCode`; a list of logs:
+// specs/Lists.antt, `listCode`); a table crosses as 1,315 numbers and a row as 64 (crossing's specs/Numbers.antt).
 mod answer;
 
 use aldlf::Entry;
 use aldlf::Node;
 use aldlf::Way;
 use answer::code;
+use answer::list_code;
 use crossing::lending::lend_table;
 use crossing::pack::TABLE;
 use crossing::pack::put_table;
@@ -38,15 +39,15 @@ pub extern "C" fn rozsvelen_read_sheet(text: &[u8], table: &mut [u16]) -> u64
     ensures { λ r. ⌜ outcome r (now (table .exit)) ≡ sheetOutcome (now (text .entry)) (now (table .entry)) ⌝ }
 {
     if table.len() != TABLE {
-        return code(LENGTH, 0, 0);
+        return code(LENGTH, 0, 0, 0);
     }
     let s = sheet::read_sheet(text);
     if s.number != 0 {
-        return code(s.number, s.line as usize, 0);
+        return code(s.number, s.line as usize, 0, 0);
     }
     let t = s.table;
     put_table(t, table);
-    code(s.number, s.line as usize, 0)
+    code(s.number, s.line as usize, 0, 0)
 }
 
 // Reads a log's text into words and counts its entries. A refusal alters nothing.
@@ -56,8 +57,8 @@ pub extern "C" fn rozsvelen_read_log(text: &[u8], words: &mut [u32]) -> u64
 {
     let r = joblog::read_log(text, words);
     match r {
-        LogAnswer::Read(n) => code(0, 0, n),
-        LogAnswer::Refused(q, k) => code(q, k, 0),
+        LogAnswer::Read(n) => code(0, 0, n, 0),
+        LogAnswer::Refused(q, k) => code(q, k, 0, 0),
     }
 }
 
@@ -70,13 +71,13 @@ pub extern "C" fn rozsvelen_judge(table: &[u16], log: &[u32], verdicts: &mut [u6
     lend_table(table, &mut numbers);
     let r = judge_lent(&numbers, log, verdicts);
     match r {
-        Judged::Held(n) => code(0, 0, n),
-        Judged::Refused(q) => code(q, 0, 0),
+        Judged::Held(n) => code(0, 0, n, 0),
+        Judged::Refused(q) => code(q, 0, 0, 0),
     }
 }
 
 // Judges a list of logs of one sheet, whose words stand one after the other: the verdict words likewise, and each log's count of
-// entries at which the rule holds. A refusal's line is the log that it is about, from 1; it alters nothing.
+// entries at which the rule holds. A refusal says the log that it is about, from 1; it alters nothing.
 #[no_mangle]
 pub extern "C" fn rozsvelen_judge_logs(
     table: &[u16],
@@ -90,7 +91,7 @@ pub extern "C" fn rozsvelen_judge_logs(
     let mut numbers = [0u32; PLACES];
     lend_table(table, &mut numbers);
     let a = batch::logs_lent(&numbers, words, lengths, verdicts, held);
-    code(a.number, a.log, 0)
+    list_code(a.number, a.log)
 }
 
 // Puts the plain row, from which a run starts, into a row. A refusal alters nothing.
@@ -99,17 +100,17 @@ pub extern "C" fn rozsvelen_plain_row(table: &[u16], row: &mut [u16]) -> u64
     ensures { λ r. ⌜ outcome r (now (row .exit)) ≡ plainOutcome (now (table .entry)) (now (row .entry)) ⌝ }
 {
     if row.len() != aldlf::NODES {
-        return code(LENGTH, 0, 0);
+        return code(LENGTH, 0, 0, 0);
     }
     let mut numbers = [0u32; PLACES];
     lend_table(table, &mut numbers);
     let start = plain_row_lent(&numbers);
     if start.number != 0 {
-        return code(start.number, 0, 0);
+        return code(start.number, 0, 0, 0);
     }
     let plain = start.row;
     put_row(plain, row);
-    code(start.number, 0, 0)
+    code(start.number, 0, 0, 0)
 }
 
 // Judges a part, given the row of the entry just outside it, and puts the row for the next part in its place. A refusal alters
@@ -125,10 +126,10 @@ pub extern "C" fn rozsvelen_judge_part(
     ensures { λ r. ⌜ partEnds r (now (row .exit)) (now (verdicts .exit)) ≡ judgePartOutcome (now (table .entry)) way (now (row .entry)) (now (words .entry)) (now (verdicts .entry)) ⌝ }
 {
     if row.len() != aldlf::NODES {
-        return code(LENGTH, 0, 0);
+        return code(LENGTH, 0, 0, 0);
     }
     if !is_way(way) {
-        return code(WAY, 0, 0);
+        return code(WAY, 0, 0, 0);
     }
     let mut numbers = [0u32; PLACES];
     lend_table(table, &mut numbers);
@@ -136,11 +137,11 @@ pub extern "C" fn rozsvelen_judge_part(
     let given = row_of(row);
     let p = part_lent(&numbers, w, given, words, verdicts);
     if p.number != 0 {
-        return code(p.number, 0, 0);
+        return code(p.number, 0, 0, 0);
     }
     let next = p.row;
     put_row(next, row);
-    code(p.number, 0, 0)
+    code(p.number, 0, 0, 0)
 }
 
 // Whether a number names a way.
@@ -176,8 +177,8 @@ pub extern "C" fn rozsvelen_walk(
     lend_table(table, &mut numbers);
     let r = walk_lent(&numbers, log, node_of(node), entry_of(entry), edges);
     match r {
-        WalkAnswer::Shown(n) => code(0, 0, n),
-        WalkAnswer::Refused(q) => code(q, 0, 0),
+        WalkAnswer::Shown(n) => code(0, 0, n, 0),
+        WalkAnswer::Refused(q) => code(q, 0, 0, 0),
     }
 }
 
@@ -208,5 +209,5 @@ pub extern "C" fn rozsvelen_page(rules: &[u8], steps: &[u8], page: &mut [u8]) ->
     ensures { λ r. ⌜ outcome r (now (page .exit)) ≡ pagePrinted (now (rules .entry)) (now (steps .entry)) (now (page .entry)) ⌝ }
 {
     let printed = report::page(rules, steps, page);
-    code(printed.number, 0, printed.bytes)
+    code(printed.number, 0, printed.bytes, 0)
 }

@@ -20,13 +20,12 @@ slice-aggregate-logs-lent c = search needs
 logs-lent-requires : tie.Need-logs-lent-requires
 logs-lent-requires c κs = search needs
 
-code-requires : tie.Need-code-requires
-code-requires c κs =
+list-code-requires : tie.Need-list-code-requires
+list-code-requires c κs =
     let a = c .before .before .before .before .before .before .before .before .before .before .before .before .before .before .before .before .args in
     let t = tableOf (now (a .table)) in
     let j = c .before .before .before .before .logs-lent in
-    let small = log-number t (now (a .words)) (now (a .lengths)) (now (a .verdicts)) (now (a .held)) _ _ (j .result) (j .ensures t (c .before .before .before .before .before .before .before .before .before .lend-table .ensures)) in
-    (omega arith, omega arith)
+    omega (arith, log-number t (now (a .words)) (now (a .lengths)) (now (a .verdicts)) (now (a .held)) _ _ (j .result) (j .ensures t (c .before .before .before .before .before .before .before .before .before .lend-table .ensures)))
 
 same-length : tie.Need-same-length
 same-length c = search needs
@@ -39,7 +38,7 @@ returns c =
     let a = c .before .before .before .before .before .before .before .before .before .before .before .before .before .before .before .before .before .args in
     let t = tableOf (now (a .table)) in
     let j = c .before .before .before .before .before .logs-lent in
-    list-is t (now (a .words)) (now (a .lengths)) (now (a .verdicts)) (now (a .held)) _ _ (j .result) (j .ensures t (c .before .before .before .before .before .before .before .before .before .before .lend-table .ensures)) (now (a .table)) refl _ (c .code .ensures)
+    list-is t (now (a .words)) (now (a .lengths)) (now (a .verdicts)) (now (a .held)) _ _ (j .result) (j .ensures t (c .before .before .before .before .before .before .before .before .before .before .lend-table .ensures)) (now (a .table)) refl _ (c .list-code .ensures)
 
 pub rozsvelen-judge-logs-spec : {M : Type 1} → statement M
 rozsvelen-judge-logs-spec =
@@ -49,7 +48,7 @@ rozsvelen-judge-logs-spec =
     lend-table-requires
     slice-aggregate-logs-lent
     logs-lent-requires
-    code-requires
+    list-code-requires
     same-length
     same-length-2
     returns)
