@@ -1,10 +1,11 @@
--- What the calls answer, as one number, and what they leave in a lent slice: reading a sheet and reading a log.
+-- What the calls answer, as one number, and what they leave in a lent slice: reading a sheet and reading a log, steps between counters and the entry that bears one.
 use Prim.Native.Nat.{ℕ, _+_, _*_}
 use mathlib.Core.Bool.{cond}
 use mathlib.Core.List.{List}
 use lib.Dec.{eqb}
 use lib.ListN.{length}
 use Rattle.joblog.specs.Log.{LogOutcome, readOutcome}
+use Rattle.joblog.specs.Counted.{countedOutcome, Lookup}
 use Rattle.sheet.specs.declared.SheetAnswer.{SheetAnswer}
 use Rattle.sheet.specs.Questions.{readSheet}
 use Rattle.crossing.specs.Numbers.{tableSize, tableNumbers}
@@ -47,3 +48,11 @@ logged o = outcome (answerCode (o .number) (o .line) (o .count) 0) (o .buffer)
 -- reading a log into lent words
 unfoldable pub logOutcome : (text words : List ℕ) → Outcome
 logOutcome text words = logged (readOutcome text words)
+
+-- reading a log with counters into lent words; what is given besides is the first counter
+unfoldable pub countedLogOutcome : (text words : List ℕ) → Outcome
+countedLogOutcome text words = let o = countedOutcome text words in outcome (answerCode (o .log .number) (o .log .line) (o .log .count) (o .first)) (o .log .buffer)
+
+-- a lookup: the entry stands where a count does
+abbrev pub lookedUp : Lookup → ℕ
+lookedUp l = answerCode (l .number) 0 (l .entry) 0

@@ -12,7 +12,12 @@ use crossing::pack::TABLE;
 use crossing::pack::put_table;
 use crossing::rows::put_row;
 use crossing::rows::row_of;
+use joblog::CountedAnswer;
 use joblog::LogAnswer;
+use joblog::counters::Counter;
+use joblog::counters::Found;
+use joblog::counters::entry_bearing;
+use joblog::counters::steps_between;
 use judge::Judged;
 use judge::lent::judge_lent;
 use judge::lent::part_lent;
@@ -22,7 +27,8 @@ use walk::WalkAnswer;
 use walk::lent::walk_lent;
 ghost use mathlib.Core.Path.{_≡_};
 ghost use Prim.Native.Nat.{min};
-ghost use Rattle.exports.specs.Answers.{outcome, sheetOutcome, logOutcome};
+ghost use Rattle.exports.specs.Answers.{accepted, outcome, sheetOutcome, logOutcome, countedLogOutcome, lookedUp};
+ghost use Rattle.joblog.specs.Counted.{stepsBetween, entryBearing};
 ghost use Rattle.exports.specs.Judging.{partEnds, judgeOutcome, plainOutcome, judgePartOutcome, isWay, wayOf};
 ghost use Rattle.exports.specs.Lists.{listEnds, judgeLogsOutcome};
 ghost use Rattle.exports.specs.Showing.{walkShown, pagePrinted};
@@ -59,6 +65,40 @@ pub extern "C" fn rozsvelen_read_log(text: &[u8], words: &mut [u32]) -> u64
     match r {
         LogAnswer::Read(n) => code(0, 0, n, 0),
         LogAnswer::Refused(q, k) => code(q, k, 0, 0),
+    }
+}
+
+// Reads the text of a log with counters into words and counts its entries; besides, the answer gives the first counter. A refusal
+// alters nothing.
+#[no_mangle]
+pub extern "C" fn rozsvelen_read_counted(text: &[u8], words: &mut [u32]) -> u64
+    ensures { λ r. ⌜ outcome r (now (words .exit)) ≡ countedLogOutcome (now (text .entry)) (now (words .entry)) ⌝ }
+{
+    let r = joblog::read_counted(text, words);
+    match r {
+        CountedAnswer::Read(n, c) => code(0, 0, n, c.0),
+        CountedAnswer::Refused(q, k) => code(q, k, 0, 0),
+    }
+}
+
+// Counts the steps from the earlier counter to the later one.
+#[no_mangle]
+pub extern "C" fn rozsvelen_steps_between(earlier: u16, later: u16) -> u64
+    ensures { λ r. ⌜ r ≡ accepted (stepsBetween earlier later) ⌝ }
+{
+    let n = steps_between(Counter(earlier), Counter(later));
+    code(0, 0, n as usize, 0)
+}
+
+// The entry that bears a counter, of a log of so many entries whose first bears `first`, where a count stands.
+#[no_mangle]
+pub extern "C" fn rozsvelen_entry_bearing(first: u16, entries: usize, counter: u16) -> u64
+    ensures { λ r. ⌜ r ≡ lookedUp (entryBearing first entries counter) ⌝ }
+{
+    let f = entry_bearing(Counter(first), entries, Counter(counter));
+    match f {
+        Found::At(e) => code(0, 0, e.0 as usize, 0),
+        Found::Refused(q) => code(q, 0, 0, 0),
     }
 }
 

@@ -1,70 +1,121 @@
--- A log that was read got a yes to each question: it has an entry, and keeps within the limit and the buffer.
+-- What a log of either form reads to: words of an entry at least, within the limit and the buffer; or a question's number with a line of the log or none, never 27
+-- where the buffer has the limit's room.
 use Prim.Native.Nat.{ℕ, _+_, _≤_, _<_}
-use mathlib.Core.Path.{_≡_, refl, ap, sym, _∙_}
+use mathlib.Core.Path.{_≡_, refl, ap, subst}
 use mathlib.Core.List.{List, [], _∷_}
-use mathlib.Core.Bool.{Bool, true, false}
+use mathlib.Core.Bool.{Bool, true, false, _&&_}
 use native.Mathlib.Omega.{arith}
-use lib.ListN.{length, take, drop}
-use lib.Dec.{ltb, leb}
-use borrow.Author.Tests.{ltb-true, leb-true}
+use lib.ListN.{length}
+use lib.Dec.{eqb, ltb, leb}
+use borrow.Author.Tests.{ltb-true, leb-true, leb-false, eqb-false}
 use Rattle.aldlf.specs.Constants.{entryLimit}
-use Rattle.text.specs.Text.{byteLimit, lf, lines, endsInLF, upTo}
-use Rattle.text.proofs.Lines.{lines-step}
-use Rattle.joblog.specs.Log.{LogRead, entries, refused, choose, entry, factsOf, readLines, fits, readLog}
-use Rattle.joblog.proofs.Storing.{first-word}
+use Rattle.aldlf.specs.Outcomes.{firstNo}
+use Rattle.text.specs.Text.{byteLimit, lines, endsInLF, upTo, comma}
+use Rattle.joblog.specs.declared.facts.Facts.{Facts}
+use Rattle.joblog.specs.declared.facts.Facts.the-variants.{NotNumbers, TooLarge, NotRising, Word}
+use Rattle.joblog.specs.Log.{LogRead, entries, refused, choose, after, entry, questionOf, fits, readLog}
+use Rattle.joblog.specs.Counted.{counterLimit, counterAt, factsAt, areNumbers, follows, countedQuestion, readCounted}
+use Rattle.joblog.specs.Steps.{factsBy, questionBy, dueBy, linesBy, readBy}
+use Rattle.joblog.proofs.BothForms.{read-plain, read-counted, first-taken}
 
--- lines read after k others keep within the limit
-under-go : (k : ℕ) (r : LogRead) (ws : List ℕ) (t : Bool) → ltb k entryLimit ≡ t → choose t r (refused 23 (k + 1)) ≡ entries ws → k < entryLimit
-under-go k r ws true e h = ltb-true k entryLimit e
-under-go k r ws false e h = let z : _≡_ {A = ℕ} 0 1 = cc in absurd (omega arith)
-
-under : (k : ℕ) (l : List ℕ) (ls : List (List ℕ)) (ws : List ℕ) → readLines k (l ∷ ls) ≡ entries ws → k < entryLimit
-unfolding readLines
-under k l ls ws e = under-go k (entry (factsOf l) (k + 1) (readLines (k + 1) ls)) ws (ltb k entryLimit) refl e
-
-within-limit : (k : ℕ) (ls : List (List ℕ)) (ws : List ℕ) → k ≤ entryLimit → readLines k ls ≡ entries ws → k + length ws ≤ entryLimit
-unfolding readLines
-within-limit k [] ws h e = let z : [] ≡ ws = cc in omega (arith, ap length z)
-within-limit k (l ∷ ls) ws h e =
-    let f = first-word k l ls ws e in
-    let i = within-limit (k + 1) ls (drop 1 ws) (omega (arith, under k l ls ws e)) (f .1) in
-    omega (arith, i, ap length (f .0))
-
--- a text that ends in LF has a line, and so a word
-some-word : (text ws : List ℕ) → endsInLF text ≡ true → readLines 0 (lines text) ≡ entries ws → 1 ≤ length ws
-some-word [] ws l e = let z : _≡_ {A = ℕ} 0 1 = cc in absurd (omega arith)
-some-word (b ∷ bs) ws l e =
-    let text = b ∷ bs in
-    let s = lines-step text (omega arith) in
-    let f = first-word 0 (take (upTo lf text) text) (lines (drop (upTo lf text + 1) text)) ws (sym (ap (readLines 0) s) ∙ e) in
-    omega (arith, ap length (f .0))
-
--- a log that was read got a yes to each question
-fits-go : (room : ℕ) (ws vs : List ℕ) (t : Bool) → leb (length vs) room ≡ t → choose t (entries vs) (refused 27 0) ≡ entries ws → (vs ≡ ws) × (length ws ≤ room)
-fits-go room ws vs true e h = let z : vs ≡ ws = cc in (z, omega (arith, leb-true (length vs) room e, ap length z))
-fits-go room ws vs false e h = let z : _≡_ {A = ℕ} 0 1 = cc in absurd (omega arith)
-
-fitting : (room : ℕ) (ws : List ℕ) (r : LogRead) → fits room r ≡ entries ws → (r ≡ entries ws) × (length ws ≤ room)
-fitting room ws (entries vs) h = let f = fits-go room ws vs (leb (length vs) room) refl h in (ap entries (f .0), f .1)
-fitting room ws (refused q k) h = let z : _≡_ {A = ℕ} 0 1 = cc in absurd (omega arith)
-
-asked-go : (room : ℕ) (ws : List ℕ) (r : LogRead) (a b : Bool) → choose a (choose b (fits room r) (refused 22 0)) (refused 21 0) ≡ entries ws → (b ≡ true) × ((r ≡ entries ws) × (length ws ≤ room))
-asked-go room ws r true true h = (refl, fitting room ws r h)
-asked-go room ws r true false h = let z : _≡_ {A = ℕ} 0 1 = cc in absurd (omega arith)
-asked-go room ws r false b h = let z : _≡_ {A = ℕ} 0 1 = cc in absurd (omega arith)
-
--- the words of a log that is read with the buffer `old`
-pub record Accepted (text old words : List ℕ) : Type 0 where
+-- the words of a log that was read with `room` words lent
+pub record Accepted (room : ℕ) (words : List ℕ) : Type 0 where
   pub some : 1 ≤ length words
   pub limit : length words ≤ entryLimit
-  pub room : length words ≤ length old
+  pub room≤ : length words ≤ room
 
-pub accepted : (text old ws : List ℕ) → readLog text (length old) ≡ entries ws → Accepted text old ws
-unfolding readLog
-accepted text old ws e =
-    let a = asked-go (length old) ws (readLines 0 (lines text)) (leb (length text) byteLimit) (endsInLF text) e in
-    record {
-      some = some-word text ws (a .0) (a .1 .0);
-      limit = omega (arith, within-limit 0 (lines text) ws (omega arith) (a .1 .0));
-      room = a .1 .1;
-    }
+-- the number and the line of a refusal
+pub record Refusal (room q k : ℕ) : Type 0 where
+  pub asked : 1 ≤ q
+  pub number≤ : q ≤ 29
+  pub line≤ : k ≤ entryLimit + 1
+  pub short : q ≡ 27 → room < entryLimit
+
+abbrev pub Sound : (room : ℕ) → LogRead → Type 0
+Sound room (entries ws) = Accepted room ws
+Sound room (refused q k) = Refusal room q k
+
+-- The numbers of a line's questions -----------------------------------------------------------------------------------------------
+
+-- at most 29, and not 27
+abbrev OfLine : ℕ → Type 0
+OfLine q = (q ≤ 29) × (q ≡ 27 → ⊥)
+
+of-line : (q : ℕ) → q ≤ 26 → OfLine q
+of-line q h = (omega arith, λ z. omega arith)
+
+facts-asked : (f : Facts) → OfLine (questionOf f)
+facts-asked NotNumbers = of-line 24 (omega arith)
+facts-asked TooLarge = of-line 25 (omega arith)
+facts-asked NotRising = of-line 26 (omega arith)
+facts-asked (Word w) = of-line 0 (omega arith)
+
+first-asked : (a b c d : Bool) (q : ℕ) → OfLine q → OfLine (firstNo ((a, 24) ∷ (b, 28) ∷ (c, 29) ∷ (d, q) ∷ []))
+first-asked false b c d q h = of-line 24 (omega arith)
+first-asked true false c d q h = (omega arith, λ z. omega arith)
+first-asked true true false d q h = (omega arith, λ z. omega arith)
+first-asked true true true false q h = h
+first-asked true true true true q h = of-line 0 (omega arith)
+
+line-asked : (form : Bool) (due : ℕ) (l : List ℕ) → OfLine (questionBy form due l)
+unfolding countedQuestion
+line-asked false due l = facts-asked (factsBy false l)
+line-asked true due l =
+    let q = questionOf (factsAt l) in
+    first-asked (ltb (upTo comma l) (length l) && areNumbers (factsAt l)) (ltb (counterAt l) counterLimit) (follows due (counterAt l)) (eqb q 0) q (facts-asked (factsAt l))
+
+-- The lines -----------------------------------------------------------------------------------------------------------------------
+
+-- what the lines after k others read to, whatever room is lent
+abbrev SoundFrom : (k : ℕ) → LogRead → Type 0
+SoundFrom k (entries ws) = k + length ws ≤ entryLimit
+SoundFrom k (refused q l) = (room : ℕ) → Refusal room q l
+
+sound-after : (k w : ℕ) (r : LogRead) → SoundFrom (k + 1) r → SoundFrom k (after w r)
+sound-after k w (entries ws) s = omega arith
+sound-after k w (refused q l) s = s
+
+sound-entry : (k q w : ℕ) (r : LogRead) (t u : Bool) → ltb k entryLimit ≡ t → eqb q 0 ≡ u → k ≤ entryLimit → OfLine q → (k < entryLimit → SoundFrom (k + 1) r)
+    → SoundFrom k (choose t (choose u (after w r) (refused q (k + 1))) (refused 23 (k + 1)))
+sound-entry k q w r true true e f h n s = sound-after k w r (s (ltb-true k entryLimit e))
+sound-entry k q w r true false e f h n s = let nz = eqb-false q 0 f in λ room. record { asked = omega arith; number≤ = n .0; line≤ = omega arith; short = λ z. absurd (n .1 z) }
+sound-entry k q w r false u e f h n s = λ room. record { asked = omega arith; number≤ = omega arith; line≤ = omega arith; short = λ z. absurd (omega arith) }
+
+sound-lines : (form : Bool) (due k : ℕ) (ls : List (List ℕ)) → k ≤ entryLimit → SoundFrom k (linesBy form due k ls)
+unfolding linesBy
+sound-lines form due k [] h = omega arith
+sound-lines form due k (l ∷ ls) h =
+    sound-entry k (questionBy form due l) _ (linesBy form (dueBy form due l) (k + 1) ls) (ltb k entryLimit) (eqb (questionBy form due l) 0) refl refl h (line-asked form due l)
+    (λ i. sound-lines form (dueBy form due l) (k + 1) ls (omega arith))
+
+-- The whole log -------------------------------------------------------------------------------------------------------------------
+
+sound-fits : (room : ℕ) (r : LogRead) → SoundFrom 0 r → ((ws : List ℕ) → r ≡ entries ws → 1 ≤ length ws) → Sound room (fits room r)
+sound-fits room (entries ws) s some = go (leb (length ws) room) refl
+  where
+    go : (t : Bool) → leb (length ws) room ≡ t → Sound room (choose t (entries ws) (refused 27 0))
+    go true e = record { some = some ws refl; limit = omega arith; room≤ = leb-true (length ws) room e }
+    go false e = record { asked = omega arith; number≤ = omega arith; line≤ = omega arith; short = λ z. omega (arith, leb-false (length ws) room e) }
+sound-fits room (refused q k) s some = s room
+
+sound-text : (room : ℕ) (r : LogRead) (a b : Bool) → (b ≡ true → Sound room (fits room r)) → Sound room (choose a (choose b (fits room r) (refused 22 0)) (refused 21 0))
+sound-text room r true true s = s refl
+sound-text room r true false s = record { asked = omega arith; number≤ = omega arith; line≤ = omega arith; short = λ z. absurd (omega arith) }
+sound-text room r false b s = record { asked = omega arith; number≤ = omega arith; line≤ = omega arith; short = λ z. absurd (omega arith) }
+
+pub sound-by : (form : Bool) (text : List ℕ) (room : ℕ) → Sound room (readBy form text room)
+unfolding readBy
+sound-by form text room =
+    let r = linesBy form counterLimit 0 (lines text) in
+    sound-text room r (leb (length text) byteLimit) (endsInLF text)
+    (λ l. sound-fits room r (sound-lines form counterLimit 0 (lines text) (omega arith)) (λ ws e. omega (arith, ap length (first-taken form counterLimit text ws l e .word))))
+
+pub sound-log : (text : List ℕ) (room : ℕ) → Sound room (readLog text room)
+sound-log text room = subst (Sound room) (read-plain text room) (sound-by false text room)
+
+pub sound-counted : (text : List ℕ) (room : ℕ) → Sound room (readCounted text room)
+sound-counted text room = subst (Sound room) (read-counted text room) (sound-by true text room)
+
+-- with the limit's room question 27 never gets a no: a log that passes 23 has at most 512 lines
+pub never-27 : (text : List ℕ) (k : ℕ) → readLog text entryLimit ≡ refused 27 k → ⊥
+never-27 text k e = let s : Refusal entryLimit 27 k = subst (Sound entryLimit) e (sound-log text entryLimit) in omega (arith, s .short refl)

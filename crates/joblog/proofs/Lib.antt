@@ -4,10 +4,15 @@ pub mod Reading
 pub mod LineFacts
 pub mod Words
 pub mod Places
+pub mod CountedLine
+pub mod BothForms
 pub mod LineByLine
 pub mod Storing
 pub mod Questions
 pub mod Padded
-pub mod Worked
 pub mod Answers
+pub mod Circle
+pub mod CountedLog
 pub mod Told
+pub mod CountedTold
+pub mod Worked

@@ -10,7 +10,7 @@ use lib.ListN.{length, getD, take, drop}
 use lib.Dec.{eqb}
 use Rattle.aldlf.proofs.Bools.{and-left, and-right}
 use borrow.Author.Tests.{ne-eqb, eqb-true, le-leb}
-use Rattle.text.specs.Text.{byteLimit, notNumber, comma, lines, fields, pieces, upTo, number, digits, addDigit}
+use Rattle.text.specs.Text.{byteLimit, notNumber, comma, lines, fields, pieces, upTo, number, numberIn, allDigits, valueOf}
 use Rattle.text.specs.Padded.{FieldPadded, same, zeros, Paired, LinePadded, TextPadded}
 use Rattle.text.proofs.PaddedLength.{padded-length}
 use Rattle.text.proofs.Padded.{field-number, paired-length}
@@ -58,7 +58,7 @@ lone-dash l = go (eq-or-lt-of-le {n = upTo comma l} {m = length l} (upTo-le comm
 
 -- no number is `-`, with zeros before it or without them
 number-lone : (f : List ℕ) → number f < notNumber → lone f ≡ false
-unfolding number digits addDigit
+unfolding number numberIn allDigits valueOf
 number-lone f h = go (lone f) refl
   where
     go : (t : Bool) → lone f ≡ t → lone f ≡ false

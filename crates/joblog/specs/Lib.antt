@@ -1,3 +1,4 @@
 pub mod Log
+pub mod Counted
 pub mod Reader
 pub mod Steps

@@ -1,5 +1,9 @@
-// Logs tried: `stdin` has the cases, one to a line, and `stdout` what document 01 gives for each.
-// A line's fields: the case's name, its log, how many words are lent, all 7 before the call, and from which one they are shown.
+// Logs tried, without and with counters, and counters: `stdin` has the cases, one to a line, and `stdout` what documents 01 and 02 give for each.
+// A line's first two fields are the call's letter and the case's name. `l` and `c` read a log of the first and of the second form: its text, how many
+// words are lent, all 7 before the call, and from which one they are shown. `s` counts the steps from one counter to another. `e` finds an entry: the
+// first counter, the number of entries, and the counter.
+mod counters;
+
 use joblog::LogAnswer;
 ghost use Prim.Native.Nat.{_≤_};
 
@@ -21,23 +25,37 @@ fn each(cases: &[u8]) {
 }
 
 fn tried(line: &[u8]) {
-    let mut words = [7u32; WORDS];
-    let n = lent(line);
-    answered(line, &mut words[..n]);
+    io::write_all(1, cases::field(line, 1));
+    let call = cases::letter(line);
+    if call == b's' {
+        counters::stepped(line);
+        return;
+    }
+    if call == b'e' {
+        counters::looked(line);
+        return;
+    }
+    lending(line, call == b'c');
 }
 
-// Prints a case's name, what is answered and the words of the lent buffer after the call.
-fn answered(line: &[u8], words: &mut [u32]) {
-    io::write_all(1, cases::field(line, 0));
-    said(read(line, words));
-    shown(words, number(line, 3));
+// Reads a case's log, in either form.
+fn lending(line: &[u8], counted: bool) {
+    let mut words = [7u32; WORDS];
+    let n = lent(line);
+    answered(line, counted, &mut words[..n]);
+}
+
+// Prints what is answered and the words of the lent buffer after the call.
+fn answered(line: &[u8], counted: bool, words: &mut [u32]) {
+    read(line, counted, words);
+    shown(words, number(line, 4));
 }
 
 // How many words a case lends.
 fn lent(line: &[u8]) -> usize
     ensures { λ r. ⌜ r ≤ 514 ⌝ }
 {
-    let n = number(line, 2);
+    let n = number(line, 3);
     if WORDS < n {
         return WORDS;
     }
@@ -49,10 +67,18 @@ fn number(line: &[u8], k: usize) -> usize {
 }
 
 // What reading a case's log answers.
-fn read(line: &[u8], words: &mut [u32]) -> LogAnswer {
+fn read(line: &[u8], counted: bool, words: &mut [u32]) {
     let mut log = io::large_buffer();
-    let n = cases::put_text(cases::field(line, 1), &mut log);
-    joblog::read_log(&log[..n], words)
+    let n = cases::put_text(cases::field(line, 2), &mut log);
+    read_by(&log[..n], counted, words);
+}
+
+fn read_by(log: &[u8], counted: bool, words: &mut [u32]) {
+    if counted {
+        counters::said(joblog::read_counted(log, words));
+        return;
+    }
+    said(joblog::read_log(log, words));
 }
 
 fn said(a: LogAnswer) {

@@ -1,7 +1,7 @@
 -- The answers of the calls, case by case, as the outcomes that the page is defined over; and what an outcome without a refusal says.
 use Prim.Native.Nat.{ℕ, zero, suc, _≤_}
 use mathlib.Core.Path.{_≡_, refl, ap, sym, _∙_}
-use mathlib.Core.Bool.{Bool, true, false}
+use mathlib.Core.Bool.{Bool, true}
 use mathlib.Core.List.{List, _++_}
 use native.Mathlib.Omega.{arith}
 use borrow.Author.Tests.{leb-true, eqb-false}
@@ -16,6 +16,7 @@ use Rattle.walk.specs.declared.WalkAnswer.{WalkAnswer}
 use Rattle.walk.specs.declared.WalkAnswer.the-variants as walked
 use Rattle.joblog.specs.Log as log
 use Rattle.joblog.specs.Log.{entries, readLog, readOutcome}
+use Rattle.joblog.proofs.Answers.{sound-log}
 use Rattle.joblog.proofs.Told.{told-read}
 use Rattle.joblog.specs.declared.LogAnswer.{LogAnswer}
 use Rattle.joblog.specs.declared.LogAnswer.the-variants as logged
@@ -29,7 +30,7 @@ use Rattle.report.specs.Page.{refusedWalk, shownLine, judgedPage}
 -- a log that was read to the first words of a buffer
 pub log-entries : (text old new : List ℕ) (a : LogAnswer) (n : ℕ) → log.answerOf a new ≡ readOutcome text old → a ≡ logged.Read n → (n ≤ length new) × (readLog text (length old) ≡ entries (take n new))
 log-entries text old new a n is r =
-    let t = told-read text old new a n is r in
+    let t = told-read old new (readLog text (length old)) (sound-log text (length old)) a is n r in
     let ws = t .words in
     (omega (arith, t .count, ap length (t .stored), length-append ws (drop (length ws) old)), t .read ∙ ap entries (sym (ap (take n) (t .stored) ∙ take-at ws (drop (length ws) old) n (sym (t .count)))))
 

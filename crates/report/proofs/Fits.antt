@@ -22,12 +22,13 @@ use Rattle.sheet.specs.Facts.{TableFacts}
 use Rattle.sheet.proofs.Facts.{table-facts}
 use Rattle.walk.proofs.Questions.{outcome-0, outcome-most}
 use Rattle.joblog.specs.Log.{LogRead, entries, refused, readLog}
+use Rattle.joblog.proofs.Answers.{Sound, sound-log}
 use Rattle.lines.specs.Lines.{refusalLine, verdictLines, walkLine, noWalkLine}
 use Rattle.report.specs.Page.{walkLimit, pageLimit, ruleOf, refusedWalk, shownLine, walkPage, judgedPage, tablePage, logPage, sheetPage, pageOf, Printed, printedOf, placed, pageOutcome}
 use Rattle.report.specs.declared.PageAnswer.{PageAnswer}
 use Rattle.lines.proofs.Lengths.{refusal-length, verdicts-length, walk-length}
 use Rattle.report.proofs.Placed.{placed-fits, placed-count}
-use Rattle.report.proofs.Numbers.{first-le, Small, sheet-small, SmallLog, log-small, held-le, edges-small}
+use Rattle.report.proofs.Numbers.{first-le, Small, sheet-small, held-le, edges-small}
 use Rattle.report.proofs.Answers.{whole-number, whole-yes, whole-held}
 
 refused-walk-length : (q : ℕ) → q ≤ 40 → length (refusedWalk q) ≤ 17
@@ -88,16 +89,16 @@ table-page-length t log =
     ))
     (omega (arith, whole-number (wellFormed t) S log (replicate entryLimit 0), whole-number-le (wellFormed t) log (replicate entryLimit 0)))
 
-log-page-length : (t : Table) (r : LogRead) → SmallLog r → length (logPage t r) ≤ pageLimit
+log-page-length : (t : Table) (r : LogRead) → Sound entryLimit r → length (logPage t r) ≤ pageLimit
 log-page-length t (entries log) s = table-page-length t log
-log-page-length t (refused q k) s = omega (arith, refusal-length q k (omega (arith, s .0)) (omega (arith, s .1)))
+log-page-length t (refused q k) s = omega (arith, refusal-length q k (omega (arith, s .number≤)) (omega (arith, s .line≤)))
 
 sheet-page-length : (a : SheetAnswer) (steps : List ℕ) → Small a byteLimit → length (sheetPage a steps) ≤ pageLimit
 unfolding sheetPage
 sheet-page-length a steps s = go (a .number) (a .line) (a .table) (s .number≤) (s .line≤)
   where
     go : (n k : ℕ) (t : Table) → n ≤ 11 → k ≤ byteLimit → length (sheetPage (record { number = n; line = k; table = t }) steps) ≤ pageLimit
-    go zero k t hn hk = log-page-length t (readLog steps entryLimit) (log-small steps entryLimit)
+    go zero k t hn hk = log-page-length t (readLog steps entryLimit) (sound-log steps entryLimit)
     go (suc q) k t hn hk = omega (arith, refusal-length (suc q) k (omega arith) (omega arith))
 
 -- every page is within the limit

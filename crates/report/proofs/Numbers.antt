@@ -6,10 +6,10 @@ use mathlib.Core.Bool.{Bool, true, false, cond}
 use mathlib.Core.List.{List, [], _∷_}
 use mathlib.Core.Option.{Option, none, some}
 use native.Mathlib.Omega.{arith}
-use borrow.Author.Tests.{ltb-true, leb-true}
+use borrow.Author.Tests.{leb-true}
 use lib.ListN.{length, getD, set, replicate}
 use lib.Dec.{eqb, ltb, leb}
-use Rattle.aldlf.specs.Constants.{entryLimit, automatonLimit, edgeLimit, letterM}
+use Rattle.aldlf.specs.Constants.{automatonLimit, edgeLimit, letterM}
 use Rattle.aldlf.specs.Sheet.{Sheet, Line, T, F, P, N, A, O, D, B, sheetOf}
 use Rattle.aldlf.specs.Meaning.{Values, Walk}
 use Rattle.aldlf.specs.Outcomes.{one, countBelow, firstNo, heldIn}
@@ -21,9 +21,6 @@ use Rattle.text.specs.Text.{lf, lines, glue, byteLimit, endsInLF, fields}
 use Rattle.sheet.specs.Questions as sheet
 use Rattle.sheet.specs.declared.SheetAnswer.{SheetAnswer}
 use Rattle.sheet.specs.Facts.{TableFacts}
-use Rattle.joblog.specs.Log.{LogRead, entries, refused, choose, after, entry, fits, questionOf, wordIn, factsOf, readLines, readLog}
-use Rattle.joblog.specs.declared.facts.Facts.{Facts}
-use Rattle.joblog.specs.declared.facts.Facts.the-variants.{NotNumbers, TooLarge, NotRising, Word}
 
 pick-le : (b : Bool) (x y n : ℕ) → x ≤ n → y ≤ n → cond b x y ≤ n
 pick-le true x y n p q = p
@@ -143,50 +140,6 @@ sheet-small text = go (bool-cases (leb (length text) byteLimit))
         (lines-small sheet.start 0 (lines text) byteLimit (marked-none automatonLimit 0) (omega (arith, lines-length text, leb-true (length text) byteLimit e)))
         (record { number≤ = omega arith; line≤ = omega arith }))
     go (inr e) = rw e (record { number≤ = omega arith; line≤ = omega arith })
-
--- The log ---------------------------------------------------------------------------------------------------------------------
-
--- a log that is refused by a number of at most 27 at a line of at most 513
-abbrev pub SmallLog : LogRead → Type 0
-SmallLog (entries ws) = Unit {0}
-SmallLog (refused q k) = (q ≤ 27) × (k ≤ entryLimit + 1)
-
-question-of-le : (f : Facts) → questionOf f ≤ 27
-question-of-le NotNumbers = omega arith
-question-of-le TooLarge = omega arith
-question-of-le NotRising = omega arith
-question-of-le (Word w) = omega arith
-
-after-small : (w : ℕ) (r : LogRead) → SmallLog r → SmallLog (after w r)
-after-small w (entries ws) s = tt
-after-small w (refused q k) s = s
-
-choose-small : (b : Bool) (x y : LogRead) → SmallLog x → SmallLog y → SmallLog (choose b x y)
-choose-small true x y p q = p
-choose-small false x y p q = q
-
-log-lines-small : (k : ℕ) (ls : List (List ℕ)) → k ≤ entryLimit → SmallLog (readLines k ls)
-unfolding readLines
-log-lines-small k [] h = tt
-log-lines-small k (l ∷ ls) h = go (ltb k entryLimit) refl (λ e. log-lines-small (k + 1) ls (omega (arith, ltb-true k entryLimit e)))
-  where
-    go : (b : Bool) → ltb k entryLimit ≡ b → (ltb k entryLimit ≡ true → SmallLog (readLines (k + 1) ls))
-        → SmallLog (choose b (entry (factsOf l) (k + 1) (readLines (k + 1) ls)) (refused 23 (k + 1)))
-    go true e rec =
-        choose-small (eqb (questionOf (factsOf l)) 0) (after (wordIn (factsOf l)) (readLines (k + 1) ls)) (refused (questionOf (factsOf l)) (k + 1))
-        (after-small (wordIn (factsOf l)) (readLines (k + 1) ls) (rec e)) (question-of-le (factsOf l), omega (arith, ltb-true k entryLimit e))
-    go false e rec = (omega arith, omega arith)
-
-fits-small : (room : ℕ) (r : LogRead) → SmallLog r → SmallLog (fits room r)
-fits-small room (entries ws) s = choose-small (leb (length ws) room) (entries ws) (refused 27 0) tt (omega arith, omega arith)
-fits-small room (refused q k) s = s
-
-pub log-small : (text : List ℕ) (room : ℕ) → SmallLog (readLog text room)
-unfolding readLog
-log-small text room =
-    choose-small (leb (length text) byteLimit) (choose (endsInLF text) (fits room (readLines 0 (lines text))) (refused 22 0)) (refused 21 0)
-    (choose-small (endsInLF text) (fits room (readLines 0 (lines text))) (refused 22 0) (fits-small room (readLines 0 (lines text)) (log-lines-small 0 (lines text) (omega arith))) (omega arith, omega arith))
-    (omega arith, omega arith)
 
 -- The verdicts and the walk ---------------------------------------------------------------------------------------------------
 

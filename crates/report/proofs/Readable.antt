@@ -1,7 +1,7 @@
 -- THE PAGE OF A SHEET AND A LOG THAT WERE BOTH READ IS NO REFUSAL: the verdicts, the count held, and the rule's walk or `walk,none`.
 -- Of the questions that are left, 31 to 33, 36, 37 and 40 get a yes; 38 and 39 are printed as `walk,none`.
 use Prim.Native.Nat.{ℕ, zero, suc, _≤_}
-use mathlib.Core.Path.{_≡_, refl, ap, sym, _∙_}
+use mathlib.Core.Path.{_≡_, refl, ap, sym, _∙_, subst}
 use mathlib.Core.Logic.{_⊎_, inl, inr}
 use mathlib.Core.Bool.{Bool, true, false, false≢true}
 use mathlib.Core.List.{List, [], _∷_, _++_}
@@ -22,7 +22,7 @@ use Rattle.sheet.specs.Given.{wellFormed}
 use Rattle.sheet.proofs.Facts.{table-facts}
 use Rattle.sheet.proofs.Question31.{read-well-formed}
 use Rattle.joblog.specs.Log.{entries, readLog}
-use Rattle.joblog.proofs.Answers.{accepted}
+use Rattle.joblog.proofs.Answers.{Accepted, Sound, sound-log}
 use Rattle.walk.proofs.Questions.{shownBy, byRoom, refusal, outcome-38, outcome-walk}
 use Rattle.walk.proofs.Shown.{short}
 use Rattle.lines.specs.Lines.{verdictLines, walkLine, noWalkLine}
@@ -128,9 +128,7 @@ module _ (t : Table) (log : List ℕ) (given : wellFormed t ≡ true) (some-entr
 pub read-page : (rules steps log : List ℕ) → readSheet rules .number ≡ 0 → readLog steps entryLimit ≡ entries log → pageOf rules steps ≡ readPage (readSheet rules .table) log
 read-page rules steps log z e =
     let t = readSheet rules .table in
-    let old = replicate {A = ℕ} entryLimit 0 in
-    let here : readLog steps (length old) ≡ entries log = ap (readLog steps) (length-replicate {A = ℕ} entryLimit 0) ∙ e in
-    let x = accepted steps old log here in
+    let x : Accepted entryLimit log = subst (Sound entryLimit) e (sound-log steps entryLimit) in
     sym (sheet-read rules steps (readSheet rules) refl z)
     ∙ ap (logPage t) e
     ∙ table-page t log (read-well-formed rules t (sheet-accepted rules z)) (x .some) (x .limit)

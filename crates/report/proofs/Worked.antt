@@ -1,6 +1,6 @@
 -- Pages worked by hand, by computation: the page is defined for the bytes of a sheet and a log, and printed as document 01 says.
 use mathlib.Core.Path.{refl}
-use Rattle.text.specs.Text.{pieces, lines, addDigit, digits, number}
+use Rattle.text.specs.Text.{pieces, lines, number, numberIn, allDigits, valueOf}
 use Rattle.aldlf.specs.Sheet.{sheetOf}
 use Rattle.aldlf.specs.Verdict.{judge}
 use Rattle.aldlf.specs.Outcomes.{partWords, heldIn, wholeNumber, wholeOutcome}
@@ -14,9 +14,9 @@ use Rattle.report.specs.Page.{refusedWalk, shownLine, walkPage, judgedPa
 use Rattle.report.specs.Examples.{AllPrint, examples, AllAnswer, lendings}
 
 pub all-print : AllPrint examples
-unfolding pieces lines addDigit digits number sheetOf judge partWords heldIn wholeNumber wholeOutcome walkIn walkOf walkNumber walkOutcome sheet.parsed sheet.knownLine sheet.allNumbers sheet.roomLeft sheet.belongs sheet.inRange sheet.newlyAccepting sheet.plainFrom sheet.plainStep sheet.question sheet.withNode sheet.withAutomaton sheet.withAccepting sheet.withEdge sheet.withLine sheet.added sheet.someEdge sheet.each sheet.whole sheet.finish sheet.readLines sheet.readSheet nodeFits edgeFits headFits edgesFit usedFits nodesFit automataFit nodesEnd automataEnd edgesEnd wellFormed log.allBelow log.rising log.wordOf log.factsOf log.readLines log.readLog digitsOf decimal refusalLine entryLine entriesBelow ruleLine verdictLines edgesBelow walkLine noWalkLine refusedWalk shownLine walkPage judgedPage tablePage sheetPage pageOf
+unfolding pieces lines number numberIn allDigits valueOf sheetOf judge partWords heldIn wholeNumber wholeOutcome walkIn walkOf walkNumber walkOutcome sheet.parsed sheet.knownLine sheet.allNumbers sheet.roomLeft sheet.belongs sheet.inRange sheet.newlyAccepting sheet.plainFrom sheet.plainStep sheet.question sheet.withNode sheet.withAutomaton sheet.withAccepting sheet.withEdge sheet.withLine sheet.added sheet.someEdge sheet.each sheet.whole sheet.finish sheet.readLines sheet.readSheet nodeFits edgeFits headFits edgesFit usedFits nodesFit automataFit nodesEnd automataEnd edgesEnd wellFormed log.allBelow log.rising log.wordOf log.factsOf log.readLines log.readLog digitsOf decimal refusalLine entryLine entriesBelow ruleLine verdictLines edgesBelow walkLine noWalkLine refusedWalk shownLine walkPage judgedPage tablePage sheetPage pageOf
 all-print = (refl, (refl, (refl, (refl, (refl, (refl, tt))))))
 
 pub all-answer : AllAnswer lendings
-unfolding pieces lines addDigit digits number sheet.parsed sheet.knownLine sheet.allNumbers sheet.roomLeft sheet.belongs sheet.inRange sheet.newlyAccepting sheet.plainFrom sheet.plainStep sheet.question sheet.withNode sheet.withAutomaton sheet.withAccepting sheet.withEdge sheet.withLine sheet.added sheet.someEdge sheet.each sheet.whole sheet.finish sheet.readLines sheet.readSheet digitsOf decimal refusalLine sheetPage pageOf placed pageOutcome
+unfolding pieces lines number numberIn allDigits valueOf sheet.parsed sheet.knownLine sheet.allNumbers sheet.roomLeft sheet.belongs sheet.inRange sheet.newlyAccepting sheet.plainFrom sheet.plainStep sheet.question sheet.withNode sheet.withAutomaton sheet.withAccepting sheet.withEdge sheet.withLine sheet.added sheet.someEdge sheet.each sheet.whole sheet.finish sheet.readLines sheet.readSheet digitsOf decimal refusalLine sheetPage pageOf placed pageOutcome
 all-answer = (refl, (refl, (refl, tt)))

@@ -7,7 +7,7 @@ use native.Mathlib.Omega.{arith}
 use lib.ListN.{length, take, length-append, length-take}
 use lib.Dec.{eqb, ltb, leb}
 use borrow.Author.Tests.{ne-eqb, lt-ltb, leb-true, eqb-true}
-use Rattle.text.specs.Text.{notNumber, comma, lf, lines, fields, upTo, endsInLF, number, digits, addDigit}
+use Rattle.text.specs.Text.{notNumber, comma, lf, lines, fields, upTo, endsInLF, number, numberIn, allDigits, valueOf}
 use Rattle.text.proofs.Pieces.{pieces-last}
 use Rattle.text.proofs.Joined.{pieces-cut, lines-cut, free-append, ends-append}
 use Rattle.sheet.specs.declared.line.Line.{Line}
@@ -29,7 +29,7 @@ good n =
     && bytes (digitsOf n))))
 
 all-good : each good notNumber ≡ true
-unfolding each good digitsOf number digits addDigit upTo bytes
+unfolding each good digitsOf number numberIn allDigits valueOf upTo bytes
 all-good = refl
 
 -- of the digits of a number below 1000: they read back, have no separator, are at most three, and are bytes

@@ -1,25 +1,17 @@
 -- The fields of a line, one at a time: a cut of the rest gives its first field, and the rest after the comma has the others.
 use Prim.Native.Nat.{ℕ, _+_, _-_, _≤_, _<_}
-use mathlib.Core.Path.{_≡_, ap, sym, _∙_}
+use mathlib.Core.Path.{_≡_, sym, _∙_}
 use mathlib.Core.List.{List, [], _∷_}
 use mathlib.Core.Bool.{cond}
 use mathlib.Core.Logic.{_⊎_, inl, inr}
 use native.Mathlib.Nat.{eq-or-lt-of-le}
 use native.Mathlib.Omega.{arith}
 use lib.ListN.{length, take, drop, length-drop}
-use lib.Seq.{take-length, take-all, drop-drop}
+use lib.Seq.{take-all, drop-drop}
 use lib.Dec.{leb}
 use borrow.Author.Tests.{le-leb, lt-leb}
 use Rattle.text.specs.Text.{comma, fields, upTo}
 use Rattle.text.proofs.Pieces.{upTo-le, pieces-last, pieces-more}
-
--- the last cut of a line
-pub fields-end : (l : List ℕ) (n : ℕ) → n ≡ upTo comma l → n ≡ length l → fields l ≡ take n l ∷ []
-fields-end l n e h = pieces-last comma l (sym e ∙ h) ∙ ap (λ (x : List ℕ). x ∷ []) (sym (ap (λ (k : ℕ). take k l) h ∙ take-length l))
-
--- a cut that leaves a rest l′
-pub fields-on : (l l′ : List ℕ) (n : ℕ) → n ≡ upTo comma l → n ≤ length l → (n ≡ length l → ⊥) → l′ ≡ drop (n + 1) l → fields l ≡ take n l ∷ fields l′
-fields-on l l′ n e w h d = rw (d, e) (pieces-more comma l (omega arith))
 
 -- the fields of a line from a place on: none where the place is past the line's end
 abbrev pub fieldsFrom : List ℕ → ℕ → List (List ℕ)

@@ -1,17 +1,17 @@
 -- Text to lines, fields and numbers: what sheets and logs share. A text is its list of bytes.
-use Prim.Native.Nat.{ℕ, suc, _+_, _*_, _-_, _≤_}
+use Prim.Native.Nat.{ℕ, suc, _+_, _*_, _-_, _^_, _≤_}
 use mathlib.Core.Path.{_≡_}
 use mathlib.Core.List.{List, [], _∷_}
-use mathlib.Core.Bool.{Bool, cond, _&&_}
+use mathlib.Core.Bool.{Bool, true, cond, _&&_}
 use lib.ListN.{length, getD, take, drop}
-use lib.Dec.{ltb, leb, eqb}
+use lib.Dec.{leb, eqb}
 use Rattle.text.specs.declared.Cut.{Cut}
 
 -- at most so many bytes in a text
 abbrev pub byteLimit : ℕ
 byteLimit = 49152
 
--- stands for what is no number: every number has at most three digits
+-- stands for what is no number, where a number has at most three digits
 abbrev pub notNumber : ℕ
 notNumber = 1000
 
@@ -59,22 +59,23 @@ lineAt text at = take (upTo lf (drop at text)) (drop at text)
 abbrev pub isDigit : ℕ → Bool
 isDigit b = leb 48 b && leb b 57
 
--- a digit more on a number of at most two digits
-unfoldable pub addDigit : ℕ → ℕ → ℕ
-addDigit v b = cond (isDigit b && ltb v 100) (v * 10 + (b - 48)) notNumber
+-- whether all bytes are digits
+unfoldable pub allDigits : List ℕ → Bool
+allDigits [] = true
+allDigits (b ∷ bs) = isDigit b && allDigits bs
 
--- the number that the digits l make, after those of v
-unfoldable pub digits : ℕ → List ℕ → ℕ
-digits v [] = v
-digits v (b ∷ bs) = digits (addDigit v b) bs
+-- the number that digits make, after those of v
+unfoldable pub valueOf : ℕ → List ℕ → ℕ
+valueOf v [] = v
+valueOf v (b ∷ bs) = valueOf (v * 10 + (b - 48)) bs
 
--- one to three bytes
-abbrev pub numberShape : List ℕ → Bool
-numberShape l = leb 1 (length l) && leb (length l) 3
+-- the number that a field of one to `most` digits is, zeros in front or not; 10 ^ most, which so few digits do not make, stands for another
+unfoldable pub numberIn : (most : ℕ) → List ℕ → ℕ
+numberIn most l = cond (leb 1 (length l) && leb (length l) most && allDigits l) (valueOf 0 l) (10 ^ most)
 
--- the number that a field is: one to three digits, zeros in front or not
+-- the number that a field of a sheet is, or a fact of a log: one to three digits
 unfoldable pub number : List ℕ → ℕ
-number l = cond (numberShape l) (digits 0 l) notNumber
+number l = numberIn 3 l
 
 -- of a line, or its rest after a comma: the length of its first field, and that field as a number
 pub record CutOf (l : List ℕ) (r : Cut) : Type 0 where

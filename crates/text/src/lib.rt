@@ -1,8 +1,8 @@
 // Lines, fields and numbers of a text: what sheets and logs share. A line ends at an LF, a field at a comma.
 ghost use mathlib.Core.Path.{_≡_};
-ghost use Prim.Native.Nat.{_≤_};
+ghost use Prim.Native.Nat.{_^_, _≤_};
 ghost use lib.ListN.{length, drop};
-ghost use Rattle.text.specs.Text.{notNumber, endsInLF, lineAt, number, numberShape, upTo, addDigit, CutOf};
+ghost use Rattle.text.specs.Text.{notNumber, endsInLF, lineAt, number, numberIn, upTo, CutOf};
 
 // At most so many bytes in a text.
 pub const BYTES: usize = 49152;
@@ -74,45 +74,47 @@ pub fn cut_field(s: &[u8]) -> Cut
 pub fn read_number(s: &[u8]) -> u16
     ensures { λ r. ⌜ (r ≡ number (now (s .entry))) × (r ≤ notNumber) ⌝ }
 {
-    if !number_shape(s) {
-        return NOT_NUMBER;
+    read_digits(s, 3, NOT_NUMBER as u32) as u16
+}
+
+// The same of one to five digits; else 100,000.
+pub fn read_long_number(s: &[u8]) -> u32
+    ensures { λ r. ⌜ r ≡ numberIn 5 (now (s .entry)) ⌝ }
+{
+    read_digits(s, 5, 100000)
+}
+
+// The number that one to `most` digits make, at most nine so that it keeps within its 32 bits; `none` for another field.
+fn read_digits(s: &[u8], most: usize, none: u32) -> u32
+    requires { ⌜ (most ≤ 9) × (none ≡ 10 ^ most) ⌝ }
+    ensures { λ r. ⌜ r ≡ numberIn most (now (s .entry)) ⌝ }
+{
+    let n = s.len();
+    if n == 0 {
+        return none;
     }
-    let mut v: u16 = 0;
+    if most < n {
+        return none;
+    }
+    let mut v: u32 = 0;
     let mut i: usize = 0;
-    while i < s.len() {
-        v = add_digit(v, s[i]);
+    while i < n {
+        let b = s[i];
+        if b < b'0' {
+            return none;
+        }
+        if b'9' < b {
+            return none;
+        }
+        v = v * 10 + wide(b - b'0');
         i += 1;
     }
     v
 }
 
-// One to three bytes.
-fn number_shape(s: &[u8]) -> bool
-    ensures { λ r. ⌜ r ≡ numberShape (now (s .entry)) ⌝ }
-{
-    let n = s.len();
-    (1 <= n) & (n <= 3)
-}
-
-// A digit more on a number below 100; NOT_NUMBER where that is no number.
-fn add_digit(v: u16, b: u8) -> u16
-    ensures { λ r. ⌜ (r ≡ addDigit v b) × (r ≤ notNumber) ⌝ }
-{
-    if b < b'0' {
-        return NOT_NUMBER;
-    }
-    if b'9' < b {
-        return NOT_NUMBER;
-    }
-    if v < 100 {
-        return v * 10 + wide(b - b'0');
-    }
-    NOT_NUMBER
-}
-
-// A byte as a number of 16 bits.
-fn wide(b: u8) -> u16
+// A byte as a number of 32 bits.
+fn wide(b: u8) -> u32
     ensures { λ r. ⌜ r ≡ b ⌝ }
 {
-    b as u16
+    b as u32
 }

@@ -6,7 +6,7 @@ use Rattle.aldlf.specs.Verdict.{judge, rowOf}
 use Rattle.aldlf.specs.Outcomes.{partWords, wholeNumber, wholeOutcome, partNumber, partOutcome}
 use Rattle.aldlf.specs.Walks.{walkIn, walkOf, walkNumber, walkOutcome}
 use Rattle.aldlf.specs.Jobs.{AllRight, jobs}
-use Rattle.text.specs.Text.{pieces, lines, addDigit, digits, number}
+use Rattle.text.specs.Text.{pieces, lines, number, numberIn, allDigits, valueOf}
 use Rattle.sheet.specs.Questions as sheet
 use Rattle.sheet.specs.Questions.{plainFrom, someEdge, each, whole}
 use Rattle.sheet.specs.Given.{nodeFits, edgeFits, headFits, edgesFit, usedFits, nodesFit, automataFit, nodesEnd, automataEnd, edgesEnd, wellFormed}
@@ -18,5 +18,5 @@ starred =
     ((refl, refl), ((refl, refl), ((refl, refl), ((refl, refl), ((refl, refl), ((refl, refl), ((refl, refl), ((refl, refl), ((refl, refl), ((refl, refl), ((refl, refl), (refl, (refl, (refl, (refl, ((refl, refl, refl), ((refl, refl, refl), ((refl, refl, refl), ((refl, refl, refl), tt)))))))))))))))))))
 
 pub sheets-read : AllRead texts
-unfolding pieces lines addDigit digits number sheet.parsed sheet.knownLine sheet.allNumbers sheet.roomLeft sheet.belongs sheet.inRange sheet.newlyAccepting sheet.plainFrom sheet.plainStep sheet.question sheet.withNode sheet.withAutomaton sheet.withAccepting sheet.withEdge sheet.withLine sheet.added sheet.someEdge sheet.each sheet.whole sheet.finish sheet.readLines sheet.readSheet
+unfolding pieces lines number numberIn allDigits valueOf sheet.parsed sheet.knownLine sheet.allNumbers sheet.roomLeft sheet.belongs sheet.inRange sheet.newlyAccepting sheet.plainFrom sheet.plainStep sheet.question sheet.withNode sheet.withAutomaton sheet.withAccepting sheet.withEdge sheet.withLine sheet.added sheet.someEdge sheet.each sheet.whole sheet.finish sheet.readLines sheet.readSheet
 sheets-read = (refl, (refl, (refl, (refl, (refl, (refl, tt))))))

@@ -20,13 +20,13 @@ put-text-requires c κs = search needs
 array-share-prefix-log : tie.Need-array-share-prefix-log
 array-share-prefix-log c = search needs
 
-slice-aggregate-read-log : tie.Need-slice-aggregate-read-log
-slice-aggregate-read-log c =
+slice-aggregate-read-by : tie.Need-slice-aggregate-read-by
+slice-aggregate-read-by c =
     let p = c .before .before .put-text in
     sym (length-take-le (p .result) (p .last .1 .0) (p .ensures .within))
 
-read-log-requires : tie.Need-read-log-requires
-read-log-requires c κs = search needs
+read-by-requires : tie.Need-read-by-requires
+read-by-requires c κs = search needs
 
 same-length : tie.Need-same-length
 same-length c = search needs
@@ -43,7 +43,7 @@ read-spec =
     slice-aggregate-put-text
     put-text-requires
     array-share-prefix-log
-    slice-aggregate-read-log
-    read-log-requires
+    slice-aggregate-read-by
+    read-by-requires
     same-length
     returns)

@@ -6,6 +6,7 @@ use lib.Seq.{length-take-le}
 use mathlib.Core.Path.{_≡_, ap, sym}
 use Rattle.aldlf.specs.Constants.{entryLimit}
 use Rattle.joblog.specs.Log.{entries, readLog}
+use Rattle.joblog.proofs.Answers.{sound-log}
 use Rattle.joblog.proofs.Told.{told-refused}
 use Rattle.report.specs.Page.{logPage}
 use Rattle.appending.proofs.Storing.{appends-same}
@@ -64,7 +65,7 @@ returns-2 c =
     let a = k .before .before .before .before .before .before .before .before .args in
     let r = k .before .before .before .read-log in
     let v = k .a2 .given in
-    λ t P. appends-same (ap (logPage t) (sym (told-refused (now (a .steps)) (replicate entryLimit 0) (r .last .1 .0) (r .result) (v .0 .0) (v .0 .1 .0) (r .ensures) (v .1) .0))) (c .before .before .put-refusal .ensures)
+    λ t P. appends-same (ap (logPage t) (sym (told-refused (replicate entryLimit 0) (r .last .1 .0) _ (sound-log (now (a .steps)) entryLimit) (r .result) (r .ensures) (v .0 .0) (v .0 .1 .0) (v .1) .0))) (c .before .before .put-refusal .ensures)
 
 pub put-log-page-spec : {M : Type 1} → statement M
 put-log-page-spec =

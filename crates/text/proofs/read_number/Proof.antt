@@ -1,73 +1,30 @@
--- read_number meets its contract: the digits left, after the value so far, always make the field's whole number. Assumes nothing.
+-- read_number meets its contract: three digits make less than a thousand, which fits in 16 bits. Assumes nothing.
+use borrow.Author.Needs.{needs}
+use Prim.Native.Nat.{_≤_}
+use mathlib.Core.Path.{_≡_}
+use native.Mathlib.Omega.{arith}
+use denote.Ref.{now}
+use Rattle.text.specs.Text.{notNumber, number}
+use Rattle.text.proofs.Digits.{number-in-le}
 use Rattle.text.proofs.read_number.Statement.{statement}
 use Rattle.text.proofs.read_number.Tie as tie
-use borrow.Author.Tests.{not-true, not-false}
-use native.Mathlib.Omega.{arith}
-use lib.ListN.{length, drop}
-use Rattle.text.specs.Text.{digits}
-use Prim.Native.Nat.{_-_, _≤_}
-use mathlib.Core.Path.{_≡_, refl}
-use Rattle.text.proofs.Numbers.{digits-step, digits-end}
-use denote.Ref.{now}
-use borrow.Author.Needs.{needs}
-use mathlib.Core.Path.{sym, _∙_}
-use Rattle.text.proofs.Numbers.{number-bad, number-good}
 
-abbrev Inv-loop : tie.InvT-loop
-Inv-loop s v₀ i₀ v i = (i ≤ length s) × (v ≤ 1000) × (digits v (drop i s) ≡ digits 0 s)
+cast-read-digits : tie.Need-cast-read-digits
+cast-read-digits c = search needs
 
-abbrev μ-loop : tie.MeasureT-loop
-μ-loop s v₀ i₀ v i = length s - i
+read-digits-requires : tie.Need-read-digits-requires
+read-digits-requires c κs = search needs
 
-number-shape-requires : tie.Need-number-shape-requires Inv-loop μ-loop
-number-shape-requires c κs = search needs
+-- what is read is the field's number, and small
+small : (c : tie.After-read-digits) → (c .read-digits .result ≡ number (now (c .before .before .args .s))) × (c .read-digits .result ≤ notNumber)
+unfolding number
+small c = let s = now (c .before .before .args .s) in (c .read-digits .ensures, omega (arith, c .read-digits .ensures, number-in-le 3 s))
 
-returns : tie.Need-returns Inv-loop μ-loop
-returns c =
-    let f = c .before .number-shape in
-    (number-bad (now (c .before .before .before .args .s)) (sym (f .ensures) ∙ not-true (f .result) (c .if1 .taken)), omega arith)
+cast-result : tie.Need-cast-result
+cast-result c = record { fits = omega (arith, small c .1) }
 
-loop-holds : tie.Need-loop-holds Inv-loop μ-loop
-loop-holds c = (omega arith, omega arith, refl)
-
-shared-slice-read-add-digit : tie.Need-shared-slice-read-add-digit Inv-loop μ-loop
-shared-slice-read-add-digit c = omega arith
-
-add-digit-requires : tie.Need-add-digit-requires Inv-loop μ-loop
-add-digit-requires c κs = search needs
-
-add-i : tie.Need-add-i Inv-loop μ-loop
-add-i c = omega arith
-
-loop-less : tie.Need-loop-less Inv-loop μ-loop
-loop-less c = omega arith
-
-loop-again : tie.Need-loop-again Inv-loop μ-loop
-loop-again c =
-    let s = now (c .before .before .before .before .before .before .before .args .s) in
-    let i = c .before .before .before .loop .i in
-    let h = c .before .before .loop-test .taken in
-    (omega arith, omega arith, rw (c .add-digit .ensures .0) (sym (digits-step (c .before .before .before .loop .v) s i h) ∙ c .before .before .before .loop .inv .2))
-
-returns-2 : tie.Need-returns-2 Inv-loop μ-loop
-returns-2 c =
-    let s = now (c .before .before .before .before .before .args .s) in
-    let f = c .before .before .before .number-shape in
-    let l = c .before .loop in
-    (number-good s (l .v) (sym (f .ensures) ∙ not-false (f .result) (c .before .before .if1 .left)) (sym (digits-end (l .v) s (l .i) (c .loop-test .left)) ∙ l .inv .2), omega arith)
+returns : tie.Need-returns
+returns c = small c
 
 pub read-number-spec : {M : Type 1} → statement M
-read-number-spec =
-    tie.close
-    (tie.spec
-    Inv-loop
-    μ-loop
-    number-shape-requires
-    returns
-    loop-holds
-    shared-slice-read-add-digit
-    add-digit-requires
-    add-i
-    loop-less
-    loop-again
-    returns-2)
+read-number-spec = tie.close (tie.spec cast-read-digits read-digits-requires cast-result returns)

@@ -1,10 +1,10 @@
--- tried is safe: a case lends no more words than there are. Assumes nothing.
+-- lending is safe: a case lends no more words than there are. Assumes nothing.
 use borrow.Author.Needs.{needs}
 use mathlib.Core.Path.{sym}
 use lib.ListN.{replicate}
 use lib.Seq.{length-take-le}
-use Rattle.joblog_tests.proofs.tried.Statement.{statement}
-use Rattle.joblog_tests.proofs.tried.Tie as tie
+use Rattle.joblog_tests.proofs.lending.Statement.{statement}
+use Rattle.joblog_tests.proofs.lending.Tie as tie
 
 lent-requires : tie.Need-lent-requires
 lent-requires c κs = search needs
@@ -21,8 +21,8 @@ answered-requires c κs = search needs
 returns : tie.Need-returns
 returns c = search needs
 
-pub tried-spec : {M : Type 1} → statement M
-tried-spec =
+pub lending-spec : {M : Type 1} → statement M
+lending-spec =
     tie.close
     (tie.spec
     lent-requires
