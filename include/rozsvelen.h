@@ -49,6 +49,17 @@ uint64_t rozsvelen_read_sheet(const uint8_t *text, size_t text_len, uint16_t *ta
  * Questions 21 to 27. Stack: 1 KB. */
 uint64_t rozsvelen_read_log(const uint8_t *text, size_t text_len, uint32_t *words, size_t words_len);
 
+/* Reads a job log whose lines have the platesetter's counter before the facts: the words and their count as above, and rozsvelen_extra is the
+ * first line's counter. Questions 21, 22; of each line 23, 24, 28, 29, 25, 26; then 27. Stack: 1 KB. */
+uint64_t rozsvelen_read_counted(const uint8_t *text, size_t text_len, uint32_t *words, size_t words_len);
+
+/* Counts the steps from an earlier counter to a later one, round 65,535 to 0 where the later is less. Asks nothing. Stack: 1 KB. */
+uint64_t rozsvelen_steps_between(uint16_t earlier, uint16_t later);
+
+/* The entry, in the count's place, that bears a counter in a log of so many entries whose first has the counter `first`. Questions 32 (1 to
+ * ROZSVELEN_ENTRIES entries), 30. Stack: 1 KB. */
+uint64_t rozsvelen_entry_bearing(uint16_t first, size_t entries, uint16_t counter);
+
 /* Judges a whole log: one word per entry, bit k for node k, in the first places of verdicts; counts the entries at which the rule,
  * the last node, holds. Questions 31, 32, 33. Stack: 72 KB. */
 uint64_t rozsvelen_judge(const uint16_t *table, size_t table_len, const uint32_t *log, size_t log_len, uint64_t *verdicts, size_t verdicts_len);

@@ -1,5 +1,5 @@
 /* What only a caller in C can do or see: the parts of an answer, empty slices at NULL, and the stack that each call takes; and numbers with
- * zeros before them, read through the C calls. Ends in 'N passed, M failed'. */
+ * zeros before them, logs with counters, steps and entries of counters, through the C calls. Ends in 'N passed, M failed'. */
 #include "rozsvelen.h"
 
 #include <pthread.h>
@@ -20,10 +20,10 @@ static void check(const char *name, int holds) {
 
 /* The sheet of the longest walk, with a line of every letter: ahead to the last entry in one state, back to the first in the next. */
 enum { LAST = ROZSVELEN_ENTRIES - 1, SHOWN = 9 };
-static char rules[4096], steps[4096];
+static char rules[4096], steps[4096], counted[8192];
 static uint16_t table[ROZSVELEN_TABLE], only_ahead[ROZSVELEN_TABLE], only_back[ROZSVELEN_TABLE];
 static uint16_t row[ROZSVELEN_ROW], edges[ROZSVELEN_WALK], held[2];
-static uint32_t words[ROZSVELEN_ENTRIES];
+static uint32_t words[ROZSVELEN_ENTRIES], words_again[ROZSVELEN_ENTRIES];
 static uint64_t verdicts[ROZSVELEN_ENTRIES];
 static uint8_t page[ROZSVELEN_PAGE];
 static uint64_t answer;
@@ -40,10 +40,23 @@ static void write_texts(void) {
     sprintf(end, "0\n");
 }
 
+/* The same log, with counters from FIRST on, round the turn. */
+enum { FIRST = 65300 };
+static void write_counted(void) {
+    char *end = counted;
+    uint16_t counter = FIRST;
+    for (const char *line = steps; *line != 0; line = strchr(line, '\n') + 1) {
+        end += sprintf(end, "%d,%.*s\n", counter++, (int)strcspn(line, "\n"), line);
+    }
+}
+
 static const uint8_t *text(const char *s) { return (const uint8_t *)s; }
 
 static void read_sheet(void) { answer = rozsvelen_read_sheet(text(rules), strlen(rules), table, ROZSVELEN_TABLE); }
 static void read_log(void) { answer = rozsvelen_read_log(text(steps), strlen(steps), words, ROZSVELEN_ENTRIES); }
+static void read_counted(void) { answer = rozsvelen_read_counted(text(counted), strlen(counted), words_again, ROZSVELEN_ENTRIES); }
+static void steps_between(void) { answer = rozsvelen_steps_between(FIRST, FIRST - 1); }
+static void entry_bearing(void) { answer = rozsvelen_entry_bearing(FIRST, ROZSVELEN_ENTRIES, (uint16_t)(FIRST + LAST)); }
 static void judge(void) { answer = rozsvelen_judge(table, ROZSVELEN_TABLE, words, ROZSVELEN_ENTRIES, verdicts, ROZSVELEN_ENTRIES); }
 static void judge_logs(void) {
     static const uint16_t halves[] = { ROZSVELEN_ENTRIES / 2, ROZSVELEN_ENTRIES / 2 };
@@ -119,6 +132,8 @@ static void empty_slices(void) {
     check("read_sheet into no table", rozsvelen_read_sheet(sheet, 2, NULL, 0) == refused(35));
     check("read_log of no text", rozsvelen_read_log(NULL, 0, words, N) == refused(22));
     check("read_log into no words", rozsvelen_read_log(log, 2, NULL, 0) == refused(27));
+    check("read_counted of no text", rozsvelen_read_counted(NULL, 0, words, N) == refused(22));
+    check("read_counted into no words", rozsvelen_read_counted(text("7,-\n"), 4, NULL, 0) == refused(27));
     check("judge with no table", rozsvelen_judge(NULL, 0, words, N, verdicts, N) == refused(31));
     check("judge of no entry", rozsvelen_judge(table, T, NULL, 0, verdicts, N) == refused(32));
     check("judge into no verdicts", rozsvelen_judge(table, T, words, N, NULL, 0) == refused(33));
@@ -158,13 +173,67 @@ static void padded_numbers(void) {
     check("read_log of 0007", rozsvelen_read_log(text("0007\n"), 5, log, 3) == refused(24) + first);
 }
 
+static int counted_is(const char *log, uint32_t *into, uint64_t wanted) {
+    return rozsvelen_read_counted(text(log), strlen(log), into, 4) == wanted;
+}
+
+/* What logs with counters are read to. */
+static void counters_read(void) {
+    uint32_t log[4] = { 9, 9, 9, 9 };
+    const char *round = "65534,0\n65535,-\n0,1,2\n";
+    uint64_t read = rozsvelen_read_counted(text(round), strlen(round), log, 4);
+    check("read_counted round the turn", rozsvelen_count(read) == 3 && rozsvelen_number(read) == 0 && rozsvelen_line(read) == 0);
+    check("read_counted round the turn, the first counter", rozsvelen_extra(read) == 65534);
+    check("read_counted round the turn, the words", log[0] == 1 && log[1] == 0 && log[2] == 6 && log[3] == 9);
+    check("read_counted of a padded counter", counted_is("00007,31\n", log, 1 + ((uint64_t)7 << 48)) && log[0] == (uint32_t)1 << 31);
+    check("read_counted of a padded fact", counted_is("5,07\n", log, 1 + ((uint64_t)5 << 48)) && log[0] == 1 << 7);
+    check("read_counted, the places behind", log[1] == 0 && log[2] == 6 && log[3] == 9);
+}
+
+/* By which question logs with counters are refused, and that nothing is altered or given beside it. */
+static void counters_refused(void) {
+    static const struct { const char *log; uint64_t number, line; } cases[] = {
+        { "7,-\n9,-\n", 29, 2 }, { "7,-\n7,-\n", 29, 2 },   { "65535,-\n65536,-\n", 28, 2 }, { "000007,-\n", 28, 1 },
+        { ",1\n", 28, 1 },       { "-,1\n", 28, 1 },        { "70000,32\n", 28, 1 },         { "99999,x\n", 24, 1 },
+        { "5\n", 24, 1 },        { "5,\n", 24, 1 },         { "5,-\n9,32\n", 29, 2 },        { "5,-\n6,32\n", 25, 2 },
+        { "5,-", 22, 0 },        { "5,-\n6,2,1\n", 26, 2 }, { "1,-\n2,-\n3,-\n4,-\n5,-\n", 27, 0 },
+    };
+    uint32_t log[4] = { 9, 9, 9, 9 };
+    for (size_t i = 0; i < sizeof cases / sizeof *cases; i++) {
+        check(cases[i].log, counted_is(cases[i].log, log, refused(cases[i].number) + (cases[i].line << 32)));
+    }
+    check("read_counted, refused, the words", log[0] == 9 && log[1] == 9 && log[2] == 9 && log[3] == 9);
+}
+
+/* Steps round the circle of counters, and the one entry that bears a counter. */
+static void steps_and_entries(void) {
+    check("steps from 65535 to 0", rozsvelen_steps_between(65535, 0) == 1);
+    check("steps from 0 to 65535", rozsvelen_steps_between(0, 65535) == 65535);
+    check("steps from 5 to 5", rozsvelen_steps_between(5, 5) == 0);
+    check("steps from 10 to 3", rozsvelen_steps_between(10, 3) == 65529);
+    check("entry of 65534", rozsvelen_entry_bearing(65534, 3, 65534) == 0);
+    check("entry of 65535", rozsvelen_entry_bearing(65534, 3, 65535) == 1);
+    check("entry of 0", rozsvelen_entry_bearing(65534, 3, 0) == 2);
+    check("entry of 1", rozsvelen_entry_bearing(65534, 3, 1) == refused(30));
+    check("entry of 65533", rozsvelen_entry_bearing(65534, 3, 65533) == refused(30));
+    check("entry in a log of none", rozsvelen_entry_bearing(65534, 0, 65534) == refused(32));
+    check("entry in a log of 513", rozsvelen_entry_bearing(65534, 513, 65534) == refused(32));
+    check("entry of 518", rozsvelen_entry_bearing(7, 512, 518) == 511);
+    check("entry of 519", rozsvelen_entry_bearing(7, 512, 519) == refused(30));
+}
+
 int main(void) {
     enum { BYTES = 10 * 4 + 90 * 5 + 412 * 6 + 23 + 10 + 5 * 511 * 2 + 11 * 511 * 3 + 5 * 2 + 10 * 3 }; /* of the page: entries, rule, walk */
     static const char ahead[] = "T\nP,0\nM,1,0\nG,0\nE,0,1,0,0\nE,0,0,1,0\nD,0,1\nB,0,1\n";
     static const char back[] = "T\nP,0\nM,1,0\nG,0\nE,0,2,0,0\nE,0,0,1,0\nD,0,1\nB,0,1\n";
     write_texts();
+    write_counted();
     takes("read_sheet", read_sheet, 0, 16);
     takes("read_log", read_log, ROZSVELEN_ENTRIES, 1);
+    takes("read_counted", read_counted, ROZSVELEN_ENTRIES + ((uint64_t)FIRST << 48), 1);
+    check("read_counted, the words of the log without counters", memcmp(words, words_again, sizeof words) == 0);
+    takes("steps_between", steps_between, 65535, 1);
+    takes("entry_bearing", entry_bearing, LAST, 1);
     takes("judge", judge, ROZSVELEN_ENTRIES, 72);
     takes("judge_logs", judge_logs, 0, 72);
     takes("plain_row", plain_row, 0, 8);
@@ -179,6 +248,9 @@ int main(void) {
     answer_parts();
     empty_slices();
     padded_numbers();
+    counters_read();
+    counters_refused();
+    steps_and_entries();
     printf("%d passed, %d failed\n", passed, failed);
     return failed != 0;
 }

@@ -25,6 +25,23 @@ pub fn read_log(text: &[u8], words: &mut [u32]) -> Result<usize, Refused> {
     answer(unsafe { rozsvelen_read_log(text.as_ptr(), text.len(), words.as_mut_ptr(), words.len()) })
 }
 
+/// An answer's count, and what is given beside it in the upper 16 bits.
+fn answer_and_extra(code: u64) -> Result<(usize, u16), Refused> {
+    Ok((answer(code)?, (code >> 48) as u16))
+}
+
+pub fn read_counted(text: &[u8], words: &mut [u32]) -> Result<(usize, u16), Refused> {
+    answer_and_extra(unsafe { rozsvelen_read_counted(text.as_ptr(), text.len(), words.as_mut_ptr(), words.len()) })
+}
+
+pub fn steps_between(earlier: u16, later: u16) -> Result<usize, Refused> {
+    answer(unsafe { rozsvelen_steps_between(earlier, later) })
+}
+
+pub fn entry_bearing(first: u16, entries: usize, counter: u16) -> Result<usize, Refused> {
+    answer(unsafe { rozsvelen_entry_bearing(first, entries, counter) })
+}
+
 pub fn judge(table: &[u16; TABLE], log: &[u32], verdicts: &mut [u64]) -> Result<usize, Refused> {
     answer(unsafe { rozsvelen_judge(table.as_ptr(), table.len(), log.as_ptr(), log.len(), verdicts.as_mut_ptr(), verdicts.len()) })
 }

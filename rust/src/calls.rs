@@ -2,6 +2,9 @@
 extern "C" {
     pub fn rozsvelen_read_sheet(text: *const u8, text_len: usize, table: *mut u16, table_len: usize) -> u64;
     pub fn rozsvelen_read_log(text: *const u8, text_len: usize, words: *mut u32, words_len: usize) -> u64;
+    pub fn rozsvelen_read_counted(text: *const u8, text_len: usize, words: *mut u32, words_len: usize) -> u64;
+    pub fn rozsvelen_steps_between(earlier: u16, later: u16) -> u64;
+    pub fn rozsvelen_entry_bearing(first: u16, entries: usize, counter: u16) -> u64;
     pub fn rozsvelen_judge(table: *const u16, table_len: usize, log: *const u32, log_len: usize, verdicts: *mut u64, verdicts_len: usize) -> u64;
     pub fn rozsvelen_judge_logs(
         table: *const u16,

@@ -132,6 +132,23 @@ impl Log {
         Ok(Log { words })
     }
 
+    /// Reads the text of a log with a platesetter's counter before the facts of each line: its words and the first line's counter, or the first
+    /// question that gets a no and its line.
+    ///
+    /// ```
+    /// use rozsvelen::{Log, Refused};
+    /// let (log, first) = Log::read_counted(b"65535,0,2\n0,-\n").unwrap();
+    /// assert_eq!(log.words(), [5, 0]);
+    /// assert_eq!(first, 65535);
+    /// assert_eq!(Log::read_counted(b"7,-\n9,-\n"), Err(Refused { number: 29, line: 2 }));
+    /// ```
+    pub fn read_counted(text: &[u8]) -> Result<(Log, u16), Refused> {
+        let mut words = vec![0; ENTRIES];
+        let (count, first) = boundary::read_counted(text, &mut words)?;
+        words.truncate(count);
+        Ok((Log { words }, first))
+    }
+
     /// The entries' words.
     pub fn words(&self) -> &[u32] {
         &self.words
@@ -147,6 +164,44 @@ impl Log {
 /// ```
 pub fn read_log(text: &[u8], words: &mut [u32]) -> Result<usize, Refused> {
     boundary::read_log(text, words)
+}
+
+/// Reads the text of a log with counters into lent words; says how many, and the first line's counter. A refusal alters nothing.
+///
+/// ```
+/// let mut words = [7; 3];
+/// assert_eq!(rozsvelen::read_counted(b"00012,0\n13,1\n", &mut words), Ok((2, 12)));
+/// assert_eq!(words, [1, 2, 7]);
+/// ```
+pub fn read_counted(text: &[u8], words: &mut [u32]) -> Result<(usize, u16), Refused> {
+    boundary::read_counted(text, words)
+}
+
+/// The number of steps from an earlier counter to a later one. After 65,535 comes 0, so there is always one.
+///
+/// ```
+/// use rozsvelen::steps_between;
+/// assert_eq!(steps_between(3, 10), 7);
+/// assert_eq!(steps_between(10, 3), 65529);
+/// assert_eq!(steps_between(65535, 0), 1);
+/// assert_eq!(steps_between(5, 5), 0);
+/// ```
+pub fn steps_between(earlier: u16, later: u16) -> u16 {
+    boundary::steps_between(earlier, later).expect("no two counters are refused") as u16
+}
+
+/// The entry that bears a counter, in a log of so many entries whose first line has the counter `first`. 32 where a log has not so many entries,
+/// 30 where no entry bears the counter.
+///
+/// ```
+/// use rozsvelen::{entry_bearing, Refused};
+/// assert_eq!(entry_bearing(65534, 3, 65535), Ok(1));
+/// assert_eq!(entry_bearing(65534, 3, 0), Ok(2));
+/// assert_eq!(entry_bearing(65534, 3, 1), Err(Refused { number: 30, line: 0 }));
+/// assert_eq!(entry_bearing(65534, 513, 1), Err(Refused { number: 32, line: 0 }));
+/// ```
+pub fn entry_bearing(first: u16, entries: usize, counter: u16) -> Result<usize, Refused> {
+    boundary::entry_bearing(first, entries, counter)
 }
 
 /// Judges a whole log: a word for each entry, bit k for node k, in the first places of `verdicts`. Gives how many entries the rule holds at.

@@ -1,4 +1,5 @@
-//! What only a caller of the C functions can do: lend slices of other lengths, numbers that are no table's, and other numbers for the way.
+//! What only a caller of the C functions can do or see: slices of other lengths, numbers that are no table's, other numbers for the way, and
+//! the whole number of an answer.
 use rozsvelen::{Sheet, ENTRIES, PAGE, ROW, TABLE};
 
 #[path = "../src/calls.rs"]
@@ -24,6 +25,18 @@ fn read_sheet(text: &[u8], table: &mut [u16]) -> u64 {
 
 fn read_log(text: &[u8], words: &mut [u32]) -> u64 {
     unsafe { rozsvelen_read_log(text.as_ptr(), text.len(), words.as_mut_ptr(), words.len()) }
+}
+
+fn read_counted(text: &[u8], words: &mut [u32]) -> u64 {
+    unsafe { rozsvelen_read_counted(text.as_ptr(), text.len(), words.as_mut_ptr(), words.len()) }
+}
+
+fn steps_between(earlier: u16, later: u16) -> u64 {
+    unsafe { rozsvelen_steps_between(earlier, later) }
+}
+
+fn entry_bearing(first: u16, entries: usize, counter: u16) -> u64 {
+    unsafe { rozsvelen_entry_bearing(first, entries, counter) }
 }
 
 fn judge(table: &[u16], log: &[u32], verdicts: &mut [u64]) -> u64 {
@@ -111,6 +124,114 @@ fn zeros_before_the_facts_of_a_log_change_nothing() {
         assert_eq!(read_log(text, &mut words), refusal(no, 1), "{:?}", String::from_utf8_lossy(text));
     }
     assert_eq!(words, [1 << 7, 0, 1 | 1 << 7 | 1 << 31, 9]);
+}
+
+#[test]
+fn a_log_with_counters_is_read_to_its_words_and_first_counter() {
+    let mut words = [9; 4];
+    assert_eq!(read_counted(b"65534,0\n65535,-\n0,1,2\n", &mut words), 3 | 65534 << 48);
+    assert_eq!(words, [1, 0, 6, 9]);
+    assert_eq!(read_counted(b"00007,31\n", &mut words), 1 | 7 << 48);
+    assert_eq!(words, [1 << 31, 0, 6, 9]);
+    assert_eq!(read_counted(b"5,07\n00006,-\n", &mut words), 2 | 5 << 48);
+    assert_eq!(words, [1 << 7, 0, 6, 9]);
+    assert_eq!(read_counted(b"0,-\n1,000,031\n", &mut words), 2, "a first counter of 0");
+    assert_eq!(words, [0, 1 | 1 << 31, 6, 9]);
+}
+
+/// A text, and the number and line of the refusal.
+type RefusedText<'a> = (&'a [u8], u64, u64);
+
+/// None of these alters a word, and none gives a count or a counter.
+fn none_is_read(texts: &[RefusedText], words: &mut [u32]) {
+    let before = words.to_vec();
+    for (text, number, line) in texts {
+        assert_eq!(read_counted(text, words), refusal(*number, *line), "{:?}", String::from_utf8_lossy(text));
+    }
+    assert_eq!(words, before);
+}
+
+#[test]
+fn a_counter_is_the_one_before_plus_one() {
+    let texts: [RefusedText; 8] = [
+        (b"7,-\n9,-\n", 29, 2),
+        (b"7,-\n7,-\n", 29, 2),
+        (b"7,-\n6,-\n", 29, 2),
+        (b"7,-\n8,-\n10,-\n", 29, 3),
+        (b"65535,-\n1,-\n", 29, 2),
+        (b"65534,-\n0,-\n", 29, 2),
+        (b"0,-\n65535,-\n", 29, 2),
+        (b"0,-\n257,-\n", 29, 2),
+    ];
+    none_is_read(&texts, &mut [9; 4]);
+}
+
+#[test]
+fn a_counter_is_one_to_five_digits_and_at_most_65535() {
+    let texts: [RefusedText; 8] = [
+        (b"65535,-\n65536,-\n", 28, 2),
+        (b",1\n", 28, 1),
+        (b"-,1\n", 28, 1),
+        (b"000007,1\n", 28, 1),
+        (b"99999,1\n", 28, 1),
+        (b"100000,1\n", 28, 1),
+        (b"+5,1\n", 28, 1),
+        (b" 5,1\n", 28, 1),
+    ];
+    none_is_read(&texts, &mut [9; 4]);
+}
+
+#[test]
+fn a_line_with_a_counter_is_asked_24_28_29_25_26() {
+    let texts: [RefusedText; 13] = [
+        (b"5\n", 24, 1),
+        (b"5,\n", 24, 1),
+        (b"\n", 24, 1),
+        (b"-\n", 24, 1),
+        (b"5,-,1\n", 24, 1),
+        (b"5,0007\n", 24, 1),
+        (b"99999,x\n", 24, 1),
+        (b"70000,32\n", 28, 1),
+        (b"5,-\n9,32\n", 29, 2),
+        (b"5,-\n9,2,1\n", 29, 2),
+        (b"5,-\n6,32\n", 25, 2),
+        (b"5,-\n6,2,1\n", 26, 2),
+        (b"5,-\n6,32,1\n", 25, 2),
+    ];
+    none_is_read(&texts, &mut [9; 4]);
+}
+
+#[test]
+fn a_log_with_counters_is_asked_21_22_first_and_27_last() {
+    let longest = [&b"x".repeat(49_151)[..], b"\n"].concat();
+    let over = [&b"x"[..], &longest].concat();
+    none_is_read(&[(b"", 22, 0), (b"5,-", 22, 0), (&longest, 24, 1), (&over, 21, 0), (&over[..49_152], 22, 0)], &mut [9; 4]);
+    none_is_read(&[(b"7,0\n8,-\n", 27, 0), (b"7,0\n9,-\n", 29, 2)], &mut [9]);
+    none_is_read(&[(b"7,0\n", 27, 0), (b"7,x\n", 24, 1)], &mut []);
+    let mut words = [9; 2];
+    assert_eq!((read_counted(b"7,0\n8,-\n", &mut words), words), (2 | 7 << 48, [1, 0]), "a word for each line is enough");
+}
+
+#[test]
+fn steps_go_round_the_circle() {
+    for (earlier, later, steps) in [(65535, 0, 1), (0, 65535, 65535), (5, 5, 0), (10, 3, 65529), (3, 10, 7), (65535, 65534, 65535)] {
+        assert_eq!(steps_between(earlier, later), steps, "from {earlier} to {later}");
+    }
+}
+
+#[test]
+fn at_most_one_entry_bears_a_counter() {
+    for (counter, answer) in [(65534, 0), (65535, 1), (0, 2), (1, refusal(30, 0)), (65533, refusal(30, 0))] {
+        assert_eq!(entry_bearing(65534, 3, counter), answer, "counter {counter}");
+    }
+    for (counter, answer) in [(7, 0), (518, 511), (519, refusal(30, 0)), (6, refusal(30, 0))] {
+        assert_eq!(entry_bearing(7, 512, counter), answer, "counter {counter}");
+    }
+    // cut to 16 or 32 bits, two of these would be 3 entries
+    for entries in [0, 513, 65_535, (1 << 16) + 3, (1 << 32) + 3, usize::MAX] {
+        assert_eq!(entry_bearing(65534, entries, 65534), refusal(32, 0), "{entries} entries");
+        assert_eq!(entry_bearing(65534, entries, 1), refusal(32, 0), "32 comes before 30, {entries} entries");
+    }
 }
 
 #[test]

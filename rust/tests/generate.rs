@@ -198,6 +198,47 @@ fn padded(random: &mut Random, field: &str) -> String {
     }
 }
 
+/// The first counter of a log of so many entries: in one of four the counter comes to 65,535 within the log, else it has any number of digits.
+pub fn first_counter(random: &mut Random, entries: usize) -> usize {
+    if random.one_in(4) {
+        return 65_535 - random.below(entries);
+    }
+    let below = *random.pick(&[10, 1000, 65_536]);
+    random.below(below)
+}
+
+/// The text of a log with counters. Its facts may be padded as those of another log; some lines have another counter than they should, or none.
+pub fn counted_text(random: &mut Random, words: &[u32]) -> String {
+    let facts = perhaps_padded(random, &log_text(words));
+    let first = first_counter(random, words.len());
+    facts.split_inclusive('\n').zip(first..).map(|(facts, n)| counted_line(random, n % 65_536, facts)).collect()
+}
+
+/// A line's facts, with LF, behind the counter n; now and then behind another, or behind none.
+fn counted_line(random: &mut Random, n: usize, facts: &str) -> String {
+    let n = match random.below(150) {
+        0 => return facts.to_string(),
+        1 => return format!("{n}\n"),
+        2 => return format!(",{facts}"),
+        3 => (n + 65_535) % 65_536,
+        4 => n + 1,
+        5 => n + (1 << random.below(17)),
+        6 => 65_536 + random.below(2) * (n % 34_464),
+        _ => n,
+    };
+    format!("{},{facts}", counter(random, n))
+}
+
+/// A counter, perhaps with zeros before it, now and then to six digits, which make none.
+fn counter(random: &mut Random, n: usize) -> String {
+    let digits = match random.below(150) {
+        0 => 6,
+        1..=60 => 2 + random.below(4),
+        _ => 0,
+    };
+    format!("{n:0digits$}")
+}
+
 /// A text with a few bytes or lines changed, or cut short; one in four is left as it is.
 pub fn perhaps_damaged(random: &mut Random, text: String) -> Vec<u8> {
     let mut bytes = text.into_bytes();

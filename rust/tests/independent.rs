@@ -11,14 +11,16 @@ mod limits;
 
 use checker::meaning::Judged;
 use checker::sheets;
+use compare::counters::{compare_entry, compare_steps};
 use compare::judging::{compare_judging, compare_plain_row};
 use compare::lists::{compare_logs, Logs};
 use compare::pages::compare_page;
 use compare::parts::{compare_part, compare_run, Part};
-use compare::texts::{compare_log, compare_sheet};
+use compare::texts::{compare_counted, compare_log, compare_sheet};
 use compare::walks::compare_walk;
 use compare::Table;
-use generate::{largest_sheet, log, log_text, perhaps_damaged, perhaps_damaged_table, perhaps_padded, sheet, Looks, Random};
+use generate::{counted_text, first_counter, largest_sheet, log, log_text, sheet, Looks, Random};
+use generate::{perhaps_damaged, perhaps_damaged_table, perhaps_padded};
 use kinds::Kinds;
 use rozsvelen::PAGE;
 
@@ -32,8 +34,53 @@ fn log_case(random: &mut Random, kinds: &mut Kinds) {
     let entries = 1 + random.below(12);
     let text = log_text(&log(random, entries));
     let text = perhaps_padded(random, &text);
-    let room = if random.one_in(6) { random.below(entries) } else { entries + random.below(4) };
+    let room = room_to_read(random, entries);
     compare_log(kinds, &perhaps_damaged(random, text), room);
+}
+
+/// How many words to lend for so many entries: now and then too few.
+fn room_to_read(random: &mut Random, entries: usize) -> usize {
+    if random.one_in(6) {
+        random.below(entries)
+    } else {
+        entries + random.below(4)
+    }
+}
+
+fn counted_case(random: &mut Random, kinds: &mut Kinds) {
+    let entries = 1 + random.below(12);
+    let words = log(random, entries);
+    let text = counted_text(random, &words);
+    let room = room_to_read(random, entries);
+    compare_counted(kinds, &perhaps_damaged(random, text), room);
+    steps_case(random, kinds);
+    entry_case(random, kinds);
+}
+
+/// Any two counters, or two that are close.
+fn steps_case(random: &mut Random, kinds: &mut Kinds) {
+    let [earlier, other] = [0, 1].map(|_| random.next() as u16);
+    let later = if random.one_in(2) { other } else { earlier.wrapping_add(other % 5).wrapping_sub(2) };
+    compare_steps(kinds, earlier, later);
+}
+
+/// The entry that bears a counter: one of the log's, the one just before or behind it, or any.
+fn entry_case(random: &mut Random, kinds: &mut Kinds) {
+    let entries = match random.below(8) {
+        0 => *random.pick(&[0, 1, 512, 513]),
+        1 => random.next() as usize,
+        2 => (1 << random.pick(&[16, 32])) + 1 + random.below(512),
+        _ => 1 + random.below(512),
+    };
+    let first = first_counter(random, entries.clamp(1, 512)) as u16;
+    let place = match random.below(6) {
+        0 => u16::MAX,
+        1 => entries as u16,
+        2 => (entries as u16).wrapping_sub(1),
+        3 => random.next() as u16,
+        _ => random.below(entries.clamp(1, 512)) as u16,
+    };
+    compare_entry(kinds, first, entries, first.wrapping_add(place));
 }
 
 fn page_case(random: &mut Random, kinds: &mut Kinds) {
@@ -241,10 +288,12 @@ fn main() {
     let from = |name: &str, default: u64| std::env::var(name).ok().and_then(|v| v.parse().ok()).unwrap_or(default);
     let (cases, seed) = (from("ROZSVELEN_CASES", 200_000), from("ROZSVELEN_SEED", 1));
     let mut random = Random(seed);
-    // lists of logs have numbers of their own, so that the other cases are the same with them and without them
-    let mut random_logs = Random(!seed);
+    // lists of logs, and counters, have numbers of their own, so that the other cases are the same with them and without them
+    let [mut random_logs, mut random_counters] = [!seed, seed ^ 1 << 63].map(Random);
     let mut kinds = Kinds::default();
     limits::texts(&mut kinds);
+    limits::counted_logs(&mut kinds);
+    limits::counters(&mut kinds);
     limits::longest_walk(&mut kinds);
     limits::most_logs(&mut kinds);
     for case in 0..cases {
@@ -263,8 +312,10 @@ fn main() {
             _ => long_case,
         };
         one(&mut random, &mut kinds);
-        if case % 9 == 8 {
-            logs_case(&mut random_logs, &mut kinds);
+        match case % 9 {
+            1 => counted_case(&mut random_counters, &mut kinds),
+            8 => logs_case(&mut random_logs, &mut kinds),
+            _ => (),
         }
     }
     print!("{kinds}");

@@ -3,9 +3,11 @@ use std::collections::BTreeMap;
 use std::fmt;
 
 /// Every call and the numbers by which it refuses; for the page, the numbers that stand on it.
-const REFUSALS: [(&str, &[u8]); 9] = [
+const REFUSALS: [(&str, &[u8]); 11] = [
     ("read_sheet", &[1, 2, 3, 4, 5, 6, 7, 8, 9, 10, 11]),
     ("read_log", &[21, 22, 23, 24, 25, 26, 27]),
+    ("read_counted", &[21, 22, 23, 24, 28, 29, 25, 26, 27]),
+    ("entry_bearing", &[32, 30]),
     ("judge", &[31, 32, 33]),
     ("judge_logs", &[31, 32, 33]),
     ("plain_row", &[31]),
@@ -15,7 +17,7 @@ const REFUSALS: [(&str, &[u8]); 9] = [
     ("page_in", &[44]),
 ];
 
-const OTHERS: [&str; 69] = [
+const OTHERS: [&str; 83] = [
     "read_sheet: read",
     "read_sheet: cut short within a line",
     "read_sheet: a byte above 127",
@@ -27,6 +29,20 @@ const OTHERS: [&str; 69] = [
     "read_log: read with a padded number",
     "read_log: 24 of a padded number of four digits",
     "read_log: places beyond the words kept",
+    "read_counted: read",
+    "read_counted: cut short within a line",
+    "read_counted: a byte above 127",
+    "read_counted: padded counter",
+    "read_counted: counter goes round",
+    "read_counted: 24 of a line without a comma",
+    "read_counted: 28 of five digits above 65535",
+    "read_counted: 28 of six digits",
+    "read_counted: 29 of a repeated counter",
+    "read_counted: places beyond the words kept",
+    "steps_between: round the turn",
+    "entry_bearing: found",
+    "entry_bearing: found behind the turn",
+    "entry_bearing: the last of 512",
     "judge: sheet looks ahead",
     "judge: sheet looks back",
     "judge: sheet looks both ways",

@@ -1,8 +1,9 @@
-//! Sheets, logs, lists of logs, pages and walks at the limits.
+//! Sheets, logs, counters, lists of logs, pages and walks at the limits.
+use crate::compare::counters::{compare_entry, compare_steps};
 use crate::compare::judging::compare_judging;
 use crate::compare::lists::{compare_logs, Logs};
 use crate::compare::pages::compare_page;
-use crate::compare::texts::{compare_log, compare_sheet};
+use crate::compare::texts::{compare_counted, compare_log, compare_sheet};
 use crate::compare::walks::compare_walk;
 use crate::compare::Table;
 use crate::generate::log_text;
@@ -35,6 +36,38 @@ pub fn texts(kinds: &mut Kinds) {
     }
 }
 
+/// Logs with counters of as many lines and bytes as there may be, and one more, round the turn. A 513th line is 23 whatever is on it.
+pub fn counted_logs(kinds: &mut Kinds) {
+    let lines = |n: usize, facts: &str| (65_300..65_300 + n).map(|c| format!("{:05},{facts}\n", c % 65_536)).collect::<String>();
+    for n in [511, 512, 513] {
+        compare_counted(kinds, lines(n, "-").as_bytes(), 600);
+        compare_counted(kinds, lines(n, "0,31").as_bytes(), 511);
+    }
+    for last in ["9,-\n", "70000,-\n", "-\n", "\n"] {
+        compare_counted(kinds, (lines(512, "-") + last).as_bytes(), 600);
+    }
+    // lines of 96 bytes, 512 of them the longest text that is not 21
+    let facts: Vec<String> = (0..32).map(|f| if f < 4 { format!("0{f}") } else { f.to_string() }).collect();
+    let longest = lines(512, &facts.join(","));
+    assert_eq!(longest.len(), 49_152);
+    compare_counted(kinds, longest.as_bytes(), 512);
+    compare_counted(kinds, longest.replacen(",4,", ",04,", 1).as_bytes(), 512);
+}
+
+/// Counters beside the turn and half way round, and the entries that bear the first and the last counter of a log and the ones beside them.
+pub fn counters(kinds: &mut Kinds) {
+    let edges = [0, 1, 2, 32_767, 32_768, 65_534, 65_535];
+    for a in edges {
+        edges.iter().for_each(|b| compare_steps(kinds, a, *b));
+        for entries in [0, 1, 2, 511, 512, 513, 65_535, 65_536, 65_537, usize::MAX] {
+            let end = a.wrapping_add(entries as u16);
+            for counter in [a.wrapping_sub(1), a, a.wrapping_add(1), end.wrapping_sub(1), end] {
+                compare_entry(kinds, a, entries, counter);
+            }
+        }
+    }
+}
+
 /// As many nodes, automata, edges and states as there may be, and one more.
 fn counted_texts() -> Vec<String> {
     let mut all = vec!["T\n".repeat(64), "T\n".repeat(65), "T\n".repeat(64) + "M,1,0\n"];
@@ -50,6 +83,7 @@ fn counted_texts() -> Vec<String> {
 fn compare_long(kinds: &mut Kinds, text: &[u8]) {
     compare_sheet(kinds, text);
     compare_log(kinds, text, 600);
+    compare_counted(kinds, text, 600);
     compare_page(kinds, text, b"-\n", 12);
     compare_page(kinds, b"T\n", text, 12);
 }

@@ -1,5 +1,5 @@
-//! A second checker, written from document 01 alone and by other means than the product's: texts are split as strings, verdicts come from sets of
-//! configurations that are closed by repetition from each start, and walks are enumerated by their length.
+//! A second checker, written from documents 01 and 02 alone and by other means than the product's: texts are split as strings, verdicts come from
+//! sets of configurations that are closed by repetition from each start, and walks are enumerated by their length.
 pub mod logs;
 pub mod meaning;
 pub mod pages;
@@ -10,8 +10,13 @@ pub type No = (u8, u32);
 
 /// The number that a field is: one to three digits, zeros in front or not.
 pub fn number(field: &[u8]) -> Option<u32> {
+    number_up_to(3, field)
+}
+
+/// The number that a field is, of at most so many digits.
+fn number_up_to(digits: usize, field: &[u8]) -> Option<u32> {
     let text = std::str::from_utf8(field).ok()?;
-    let fits = (1..=3).contains(&text.len()) && text.bytes().all(|b| b.is_ascii_digit());
+    let fits = (1..=digits).contains(&text.len()) && text.bytes().all(|b| b.is_ascii_digit());
     fits.then(|| text.parse().unwrap())
 }
 

@@ -1,4 +1,5 @@
 //! Every call on one case by the product and by the independent checker: the same answer, and the same content of every lent buffer.
+pub mod counters;
 pub mod judging;
 pub mod lists;
 pub mod pages;
