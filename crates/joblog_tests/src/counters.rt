@@ -5,7 +5,7 @@ use joblog::counters::Found;
 use joblog::counters::entry_bearing;
 use joblog::counters::steps_between;
 
-pub fn said(a: CountedAnswer) {
+pub(crate) fn said(a: CountedAnswer) {
     match a {
         CountedAnswer::Read(n, c) => begun(n, c),
         CountedAnswer::Refused(q, k) => super::refused(q, k),
@@ -18,13 +18,13 @@ fn begun(entries: usize, first: Counter) {
     super::numbered(b",first,", first.0 as u64);
 }
 
-pub fn stepped(line: &[u8]) {
+pub(crate) fn stepped(line: &[u8]) {
     let steps = steps_between(counter(line, 2), counter(line, 3));
     super::numbered(b": steps,", steps as u64);
     io::write_all(1, b"\n");
 }
 
-pub fn looked(line: &[u8]) {
+pub(crate) fn looked(line: &[u8]) {
     let f = entry_bearing(counter(line, 2), super::number(line, 3), counter(line, 4));
     match f {
         Found::At(e) => super::numbered(b": entry,", e.0 as u64),
