@@ -85,12 +85,13 @@ fitting : (room : ℕ) (ws : List ℕ) (r : LogRead) → fits room r ≡ entries
 fitting room ws (entries vs) h = let f = fits-go room ws vs (leb (length vs) room) refl h in (ap entries (f .0), f .1)
 fitting room ws (refused q k) h = let z : _≡_ {A = ℕ} 0 1 = cc in absurd (omega arith)
 
-asked-go : (room : ℕ) (ws : List ℕ) (r : LogRead) (a b : Bool) → choose a (choose b (fits room r) (refused 22 0)) (refused 21 0) ≡ entries ws → (b ≡ true) × ((r ≡ entries ws) × (length ws ≤ room))
-asked-go room ws r true true h = (refl, fitting room ws r h)
+asked-go : (room : ℕ) (ws : List ℕ) (r : LogRead) (a b : Bool) → choose a (choose b (fits room r) (refused 22 0)) (refused 21 0) ≡ entries ws → (a ≡ true) × (b ≡ true) × (r ≡ entries ws) × (length ws ≤ room)
+asked-go room ws r true true h = let f = fitting room ws r h in (refl, refl, f .0, f .1)
 asked-go room ws r true false h = let z : _≡_ {A = ℕ} 0 1 = cc in absurd (omega arith)
 asked-go room ws r false b h = let z : _≡_ {A = ℕ} 0 1 = cc in absurd (omega arith)
 
 pub record Granted (counted : Bool) (text : List ℕ) (room : ℕ) (ws : List ℕ) : Type 0 where
+  pub bytes≤ : length text ≤ byteLimit
   pub ended : endsInLF text ≡ true
   pub read : linesBy counted counterLimit 0 (lines text) ≡ entries ws
   pub room≤ : length ws ≤ room
@@ -99,4 +100,4 @@ pub granted : (counted : Bool) (text : List ℕ) (room : ℕ) (ws : List ℕ) �
 unfolding readBy
 granted counted text room ws e =
     let a = asked-go room ws (linesBy counted counterLimit 0 (lines text)) (leb (length text) byteLimit) (endsInLF text) e in
-    record { ended = a .0; read = a .1 .0; room≤ = a .1 .1 }
+    record { bytes≤ = leb-true (length text) byteLimit (a .0); ended = a .1; read = a .2; room≤ = a .3 }

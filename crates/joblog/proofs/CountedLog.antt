@@ -1,18 +1,20 @@
 -- What a log with counters is that was read: the facts of its lines as the first form reads them, and counters that follow one another.
-use Prim.Native.Nat.{ℕ, zero, suc, _+_, _%_, _<_}
+use Prim.Native.Nat.{ℕ, zero, suc, _+_, _%_, _≤_, _<_}
 use mathlib.Core.Path.{_≡_, refl, ap, sym, _∙_, subst}
 use mathlib.Core.List.{List, [], _∷_, map}
 use mathlib.Core.Bool.{Bool, true, false, _||_}
 use mathlib.Core.Logic.{_↔_}
 use native.Mathlib.Omega.{arith}
-use lib.ListN.{length, getD, take, drop}
+use lib.ListN.{length, getD, take, drop, length-append, length-drop}
 use lib.Dec.{eqb}
-use borrow.Author.Tests.{lt-ltb, eqb-true}
+use borrow.Author.Tests.{lt-ltb, le-leb, eqb-true}
 use Rattle.aldlf.specs.Constants.{entryLimit}
-use Rattle.text.specs.Text.{lf, lines, lineAt, upTo, endsInLF}
+use Rattle.text.specs.Text.{byteLimit, lf, comma, lines, lineAt, upTo, endsInLF}
 use Rattle.text.proofs.Lines.{lines-step}
-use Rattle.joblog.specs.Log.{entries, after, readLines, questionOf, wordIn, factsOf}
-use Rattle.joblog.specs.Counted.{counterLimit, nextCounter, counterAt, afterComma, factsAt, countedLines, readCounted, firstCounter, entryBearing}
+use Rattle.text.proofs.Joined.{lines-cut, ends-append, free-drop, Free, lines-free}
+use Rattle.text.proofs.Sizes.{size, lines-bytes}
+use Rattle.joblog.specs.Log.{entries, after, readLines, readLog, questionOf, wordIn, factsOf}
+use Rattle.joblog.specs.Counted.{counterLimit, nextCounter, counterAt, afterComma, factsAt, countedLines, readCounted, withoutCounters, firstCounter, entryBearing}
 use Rattle.joblog.proofs.CountedLine.{Yes, question-yes}
 use Rattle.joblog.proofs.BothForms.{lines-counted, read-counted, Taken, taken, first-taken, Granted, granted}
 use Rattle.joblog.proofs.Answers.{Accepted, Sound, sound-counted}
@@ -29,14 +31,39 @@ first-line due k l ls ws e =
     let t = taken true due k l ls ws (lines-counted due k (l ∷ ls) ∙ e) in
     (t, question-yes due l (t .asked), sym (lines-counted (nextCounter (counterAt l)) (k + 1) ls) ∙ t .rest)
 
--- Its words are those of its lines, read in the first form from the first comma on.
-pub counted-words : (due k : ℕ) (ls : List (List ℕ)) (ws : List ℕ) → countedLines due k ls ≡ entries ws → readLines k (map afterComma ls) ≡ entries ws
+-- the words of lines are those that the first form reads from the first comma on
+words-from : (due k : ℕ) (ls : List (List ℕ)) (ws : List ℕ) → countedLines due k ls ≡ entries ws → readLines k (map afterComma ls) ≡ entries ws
 unfolding countedLines readLines
-counted-words due k [] ws e = e
-counted-words due k (l ∷ ls) ws e =
+words-from due k [] ws e = e
+words-from due k (l ∷ ls) ws e =
     let f = first-line due k l ls ws e in
-    let i = counted-words (nextCounter (counterAt l)) (k + 1) ls (drop 1 ws) (f .2) in
+    let i = words-from (nextCounter (counterAt l)) (k + 1) ls (drop 1 ws) (f .2) in
     read-on k (afterComma l) (map afterComma ls) (f .0 .limit) (f .1 .facts) ∙ ap (after (wordIn (factsAt l))) i ∙ ap entries (sym (f .0 .word))
+
+-- a text put together from lines without their counters: its lines, its last byte and its length
+without-lines : (ls : List (List ℕ)) → Free ls → lines (withoutCounters ls) ≡ map afterComma ls
+unfolding withoutCounters lines
+without-lines [] h = refl
+without-lines (l ∷ ls) h =
+    lines-cut (afterComma l) (withoutCounters ls) (free-drop lf (upTo comma l + 1) l (h .0)) ∙ ap (λ (ms : List (List ℕ)). afterComma l ∷ ms) (without-lines ls (h .1))
+
+ended-go : (ls : List (List ℕ)) → endsInLF (lf ∷ withoutCounters ls) ≡ true
+unfolding withoutCounters
+ended-go [] = refl
+ended-go (l ∷ ls) = ends-append (lf ∷ afterComma l) lf (withoutCounters ls) (ended-go ls)
+
+without-ends : (text : List ℕ) → endsInLF text ≡ true → endsInLF (withoutCounters (lines text)) ≡ true
+unfolding withoutCounters
+without-ends [] h = absurd (let z : _≡_ {A = ℕ} 0 1 = cc in omega arith)
+without-ends (b ∷ bs) h =
+    let text = b ∷ bs in
+    let rest = lines (drop (upTo lf text + 1) text) in
+    rw (lines-step text (omega arith)) (ends-append (afterComma (lineAt text 0)) lf (withoutCounters rest) (ended-go rest))
+
+without-length : (ls : List (List ℕ)) → length (withoutCounters ls) ≤ size ls
+unfolding withoutCounters
+without-length [] = omega arith
+without-length (l ∷ ls) = omega (arith, length-append (afterComma l) (lf ∷ withoutCounters ls), length-drop (upTo comma l + 1) l, without-length ls)
 
 -- a counter that is due has come
 due-came : (due c : ℕ) (t : Bool) → eqb due counterLimit ≡ t → due < counterLimit → (t || eqb c due) ≡ true → c ≡ due
@@ -74,6 +101,15 @@ module _ (text : List ℕ) (room : ℕ) (ws : List ℕ) (e : readCounted text ro
 
   was-lines : countedLines counterLimit 0 (lines text) ≡ entries ws
   was-lines = sym (lines-counted counterLimit 0 (lines text)) ∙ was .read
+
+  -- Its words are those that the first form reads from its lines without their counters.
+  pub counted-words : readLog (withoutCounters (lines text)) room ≡ entries ws
+  unfolding readLog
+  counted-words =
+      let w = without-lines (lines text) (lines-free text) in
+      let r : readLines 0 (lines (withoutCounters (lines text))) ≡ entries ws = ap (readLines 0) w ∙ words-from counterLimit 0 (lines text) ws was-lines in
+      let b : length (withoutCounters (lines text)) ≤ byteLimit = omega (arith, without-length (lines text), lines-bytes text (was .ended), was .bytes≤) in
+      rw (le-leb (length (withoutCounters (lines text))) byteLimit b, without-ends text (was .ended), r, le-leb (length ws) room (was .room≤))
 
   -- The counters of its entries follow one another round the circle, from the first on.
   pub counted-follow : (i : ℕ) → i < length ws → counterAt (getD (lines text) i []) ≡ (firstCounter text + i) % counterLimit

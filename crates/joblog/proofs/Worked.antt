@@ -4,7 +4,7 @@ use mathlib.Core.List.{List, [], _∷_}
 use mathlib.Core.Path.{_≡_, refl}
 use Rattle.text.specs.Text.{pieces, lines, upTo, number, numberIn, allDigits, valueOf}
 use Rattle.joblog.specs.Log.{LogRead, entries, refused, readLog, readLines, factsOf, allBelow, rising, wordOf}
-use Rattle.joblog.specs.Counted.{stepsBetween, countedQuestion, countedLines, readCounted, firstCounter, Lookup, entryBearing}
+use Rattle.joblog.specs.Counted.{stepsBetween, countedQuestion, countedLines, readCounted, withoutCounters, firstCounter, Lookup, entryBearing}
 
 pub record Example : Type 0 where
   pub text : List ℕ
@@ -83,6 +83,11 @@ all-counted = (refl, (refl, (refl, (refl, (refl, (refl, (refl, (refl, (refl, (re
 pub firsts-worked : (firstCounter (54 ∷ 53 ∷ 53 ∷ 51 ∷ 52 ∷ 44 ∷ 48 ∷ 10 ∷ []) ≡ 65534) × (firstCounter (48 ∷ 48 ∷ 48 ∷ 48 ∷ 55 ∷ 44 ∷ 51 ∷ 49 ∷ 10 ∷ []) ≡ 7)
 unfolding upTo numberIn allDigits valueOf
 firsts-worked = (refl, refl)
+
+-- `7,0` and `8,-` without their counters are `0` and `-`
+pub without-worked : withoutCounters ((55 ∷ 44 ∷ 48 ∷ []) ∷ (56 ∷ 44 ∷ 45 ∷ []) ∷ []) ≡ 48 ∷ 10 ∷ 45 ∷ 10 ∷ []
+unfolding withoutCounters upTo
+without-worked = refl
 
 -- from 65,535 to 0, from 0 to 65,535, from 5 to itself, from 10 to 3
 pub steps-worked : (stepsBetween 65535 0 ≡ 1) × (stepsBetween 0 65535 ≡ 65535) × (stepsBetween 5 5 ≡ 0) × (stepsBetween 10 3 ≡ 65529)

@@ -1,12 +1,12 @@
 -- The log with the platesetter's counter: the circle of counters, what a line says, questions 24 to 29 in their order, and the entry that bears a counter.
 use Prim.Native.Nat.{ℕ, _+_, _-_, _%_}
-use mathlib.Core.List.{List, [], _∷_}
+use mathlib.Core.List.{List, [], _∷_, _++_}
 use mathlib.Core.Bool.{Bool, true, false, cond, not, _&&_, _||_}
 use lib.ListN.{length, take, drop}
 use lib.Dec.{ltb, leb, eqb}
 use Rattle.aldlf.specs.Constants.{entryLimit}
 use Rattle.aldlf.specs.Outcomes.{firstNo}
-use Rattle.text.specs.Text.{comma, upTo, lines, lineAt, numberIn}
+use Rattle.text.specs.Text.{lf, comma, upTo, lines, lineAt, numberIn}
 use Rattle.joblog.specs.declared.facts.Facts.{Facts}
 use Rattle.joblog.specs.declared.LogAnswer.the-variants as plain
 use Rattle.joblog.specs.declared.CountedAnswer.{CountedAnswer}
@@ -65,6 +65,11 @@ countedLines due k (l ∷ ls) = entry k (countedQuestion due l) (factsAt l) (cou
 -- a log with counters, read with a lent buffer of `room` words
 unfoldable pub readCounted : List ℕ → ℕ → LogRead
 readCounted text room = asText text room (countedLines counterLimit 0 (lines text))
+
+-- the text of lines without their counters; only theorems cite this
+unfoldable pub withoutCounters : List (List ℕ) → List ℕ
+withoutCounters [] = []
+withoutCounters (l ∷ ls) = afterComma l ++ lf ∷ withoutCounters ls
 
 -- the first counter of a log: that of the line at its start
 abbrev pub firstCounter : List ℕ → ℕ

@@ -1,10 +1,10 @@
 -- Texts put together: pieces and lines joined by their separators are read back as they were.
-use Prim.Native.Nat.{ℕ, suc, _+_, _-_}
+use Prim.Native.Nat.{ℕ, zero, suc, _+_, _-_}
 use mathlib.Core.Path.{_≡_, refl, ap, _∙_}
 use mathlib.Core.List.{List, [], _∷_, _++_}
 use mathlib.Core.Bool.{Bool, true, false, cond}
 use native.Mathlib.Omega.{arith}
-use lib.ListN.{length, length-append}
+use lib.ListN.{length, drop, length-append}
 use lib.Seq.{getD-append-add}
 use lib.Dec.{eqb}
 use borrow.Author.Tests.{eq-eqb}
@@ -43,3 +43,27 @@ pub ends-append : (p : List ℕ) (b : ℕ) (q : List ℕ) → endsInLF (b ∷ q)
 ends-append p b q e =
     let n : length (p ++ b ∷ q) - 1 ≡ length p + (length (b ∷ q) - 1) = omega (arith, length-append p (b ∷ q)) in
     rw n (ap (λ (x : ℕ). eqb x lf) (getD-append-add p (b ∷ q) (length (b ∷ q) - 1) 0) ∙ e)
+
+-- what is left of a text without a separator has none
+pub free-drop : (sep n : ℕ) (l : List ℕ) → upTo sep l ≡ length l → upTo sep (drop n l) ≡ length (drop n l)
+unfolding upTo
+free-drop sep zero l e = e
+free-drop sep (suc n) [] e = e
+free-drop sep (suc n) (b ∷ bs) e = free-drop sep n bs (suc-of (eqb b sep) (upTo sep bs) (length bs) e .1)
+
+-- lines without an LF in them
+abbrev pub Free : List (List ℕ) → Type 0
+Free [] = Unit {0}
+Free (l ∷ ls) = (upTo lf l ≡ length l) × Free ls
+
+free-go : (b : ℕ) (ls : List (List ℕ)) (t : Bool) → eqb b lf ≡ t → Free ls → Free (cond t ([] ∷ ls) (glue b ls))
+unfolding upTo
+free-go b ls true e h = (refl, h)
+free-go b [] false e h = (rw e, tt)
+free-go b (l ∷ ls) false e h = (rw (e, h .0), h .1)
+
+-- are those of every text
+pub lines-free : (text : List ℕ) → Free (lines text)
+unfolding lines
+lines-free [] = tt
+lines-free (b ∷ bs) = free-go b (lines bs) (eqb b lf) refl (lines-free bs)

@@ -1,6 +1,7 @@
 pub mod Numbers
 pub mod Digits
 pub mod Padded
+pub mod Sizes
 pub mod PaddedLength
 pub mod Pieces
 pub mod Lines
