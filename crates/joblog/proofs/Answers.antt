@@ -3,19 +3,17 @@
 use Prim.Native.Nat.{ℕ, _+_, _≤_, _<_}
 use mathlib.Core.Path.{_≡_, refl, ap, subst}
 use mathlib.Core.List.{List, [], _∷_}
-use mathlib.Core.Bool.{Bool, true, false, _&&_}
+use mathlib.Core.Bool.{Bool, true, false}
 use native.Mathlib.Omega.{arith}
 use lib.ListN.{length}
 use lib.Dec.{eqb, ltb, leb}
 use borrow.Author.Tests.{ltb-true, leb-true, leb-false, eqb-false}
 use Rattle.aldlf.specs.Constants.{entryLimit}
-use Rattle.aldlf.specs.Outcomes.{firstNo}
-use Rattle.text.specs.Text.{byteLimit, lines, endsInLF, upTo, comma}
-use Rattle.joblog.specs.declared.facts.Facts.{Facts}
-use Rattle.joblog.specs.declared.facts.Facts.the-variants.{NotNumbers, TooLarge, NotRising, Word}
-use Rattle.joblog.specs.Log.{LogRead, entries, refused, choose, after, entry, questionOf, fits, readLog}
-use Rattle.joblog.specs.Counted.{counterLimit, counterAt, factsAt, areNumbers, follows, countedQuestion, readCounted}
-use Rattle.joblog.specs.Steps.{factsBy, questionBy, dueBy, linesBy, readBy}
+use Rattle.text.specs.Text.{byteLimit, lines, endsInLF}
+use Rattle.joblog.specs.Log.{LogRead, entries, refused, choose, after, fits, readLog}
+use Rattle.joblog.specs.Counted.{counterLimit, readCounted}
+use Rattle.joblog.specs.Steps.{questionBy, dueBy, linesBy, readBy}
+use Rattle.joblog.proofs.CountedLine.{OfLine, line-asked}
 use Rattle.joblog.proofs.BothForms.{read-plain, read-counted, first-taken}
 
 -- the words of a log that was read with `room` words lent
@@ -34,35 +32,6 @@ pub record Refusal (room q k : ℕ) : Type 0 where
 abbrev pub Sound : (room : ℕ) → LogRead → Type 0
 Sound room (entries ws) = Accepted room ws
 Sound room (refused q k) = Refusal room q k
-
--- The numbers of a line's questions -----------------------------------------------------------------------------------------------
-
--- at most 29, and not 27
-abbrev OfLine : ℕ → Type 0
-OfLine q = (q ≤ 29) × (q ≡ 27 → ⊥)
-
-of-line : (q : ℕ) → q ≤ 26 → OfLine q
-of-line q h = (omega arith, λ z. omega arith)
-
-facts-asked : (f : Facts) → OfLine (questionOf f)
-facts-asked NotNumbers = of-line 24 (omega arith)
-facts-asked TooLarge = of-line 25 (omega arith)
-facts-asked NotRising = of-line 26 (omega arith)
-facts-asked (Word w) = of-line 0 (omega arith)
-
-first-asked : (a b c d : Bool) (q : ℕ) → OfLine q → OfLine (firstNo ((a, 24) ∷ (b, 28) ∷ (c, 29) ∷ (d, q) ∷ []))
-first-asked false b c d q h = of-line 24 (omega arith)
-first-asked true false c d q h = (omega arith, λ z. omega arith)
-first-asked true true false d q h = (omega arith, λ z. omega arith)
-first-asked true true true false q h = h
-first-asked true true true true q h = of-line 0 (omega arith)
-
-line-asked : (form : Bool) (due : ℕ) (l : List ℕ) → OfLine (questionBy form due l)
-unfolding countedQuestion
-line-asked false due l = facts-asked (factsBy false l)
-line-asked true due l =
-    let q = questionOf (factsAt l) in
-    first-asked (ltb (upTo comma l) (length l) && areNumbers (factsAt l)) (ltb (counterAt l) counterLimit) (follows due (counterAt l)) (eqb q 0) q (facts-asked (factsAt l))
 
 -- The lines -----------------------------------------------------------------------------------------------------------------------
 

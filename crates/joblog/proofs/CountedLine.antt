@@ -1,4 +1,4 @@
--- The questions of a line with a counter, each by its answer.
+-- The questions of a line with a counter, each by its answer; and by which numbers a line of either form is refused.
 use Prim.Native.Nat.{ℕ, _≤_, _<_}
 use mathlib.Core.Path.{_≡_, refl, ap, sym, _∙_}
 use mathlib.Core.List.{List, [], _∷_}
@@ -9,10 +9,12 @@ use lib.Dec.{ltb, eqb}
 use borrow.Author.Tests.{lt-ltb, le-ltb, eq-eqb, ne-eqb, eqb-true, eqb-false, ltb-true}
 use Rattle.aldlf.specs.Outcomes.{firstNo}
 use Rattle.text.specs.Text.{comma, upTo}
+use Rattle.joblog.specs.declared.facts.Facts.{Facts}
+use Rattle.joblog.specs.declared.facts.Facts.the-variants.{NotNumbers, TooLarge, NotRising, Word}
 use Rattle.joblog.specs.declared.forms.Asked.{Asked}
 use Rattle.joblog.specs.Log.{questionOf}
 use Rattle.joblog.specs.Counted.{counterLimit, counterAt, factsAt, areNumbers, follows, countedQuestion}
-use Rattle.joblog.specs.Steps.{AskedOf}
+use Rattle.joblog.specs.Steps.{factsBy, questionBy, AskedOf}
 
 four-asked : (a b c d x y z w : Bool) (q : ℕ) → a ≡ x → b ≡ y → c ≡ z → d ≡ w → firstNo ((a, 24) ∷ (b, 28) ∷ (c, 29) ∷ (d, q) ∷ []) ≡ firstNo ((x, 24) ∷ (y, 28) ∷ (z, 29) ∷ (w, q) ∷ [])
 four-asked a b c d x y z w q e f g h =
@@ -87,3 +89,30 @@ question-yes due l h =
 -- of the form that a line has
 pub asked-by : (b counted : Bool) (due : ℕ) (l : List ℕ) (r : Asked) → b ≡ counted → AskedOf b due l r → AskedOf counted due l r
 asked-by b counted due l r e a = rw (← e) a
+
+-- a number that a line of either form gets a no from: at most 29, and not 27
+abbrev pub OfLine : ℕ → Type 0
+OfLine q = (q ≤ 29) × (q ≡ 27 → ⊥)
+
+of-line : (q : ℕ) → q ≤ 26 → OfLine q
+of-line q h = (omega arith, λ z. omega arith)
+
+facts-asked : (f : Facts) → OfLine (questionOf f)
+facts-asked NotNumbers = of-line 24 (omega arith)
+facts-asked TooLarge = of-line 25 (omega arith)
+facts-asked NotRising = of-line 26 (omega arith)
+facts-asked (Word w) = of-line 0 (omega arith)
+
+first-asked : (a b c d : Bool) (q : ℕ) → OfLine q → OfLine (firstNo ((a, 24) ∷ (b, 28) ∷ (c, 29) ∷ (d, q) ∷ []))
+first-asked false b c d q h = of-line 24 (omega arith)
+first-asked true false c d q h = (omega arith, λ z. omega arith)
+first-asked true true false d q h = (omega arith, λ z. omega arith)
+first-asked true true true false q h = h
+first-asked true true true true q h = of-line 0 (omega arith)
+
+pub line-asked : (form : Bool) (due : ℕ) (l : List ℕ) → OfLine (questionBy form due l)
+unfolding countedQuestion
+line-asked false due l = facts-asked (factsBy false l)
+line-asked true due l =
+    let q = questionOf (factsAt l) in
+    first-asked (ltb (upTo comma l) (length l) && areNumbers (factsAt l)) (ltb (counterAt l) counterLimit) (follows due (counterAt l)) (eqb q 0) q (facts-asked (factsAt l))
