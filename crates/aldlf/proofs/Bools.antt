@@ -1,13 +1,14 @@
 -- Laws of Bools, of orders by tests, and of tests over the numbers below a bound.
-use Prim.Native.Nat.{ℕ, zero, suc, _-_, _≤_, _<_}
+use Prim.Native.Nat.{ℕ, zero, suc, _+_, _-_, _≤_, _<_}
 use native.Mathlib.Omega.{arith}
-use mathlib.Core.Path.{_≡_, refl, sym, subst, _∙_}
+use mathlib.Core.Path.{_≡_, refl, sym, subst, ap₂, _∙_}
 use mathlib.Core.Logic.{_⊎_, inl, inr, _↔_}
 use mathlib.Core.Bool.{Bool, true, false, not, _&&_, _||_, false≢true, Bool·not-not}
 use lib.Dec.{eqb, ltb}
 use borrow.Author.Tests.{eqb-true, eqb-false, ltb-true, ltb-false}
 use Rattle.aldlf.specs.Parts.{allBelow}
 use Rattle.aldlf.specs.Verdict.{anyBelow, facing}
+use Rattle.aldlf.specs.Outcomes.{one, countBelow}
 
 pub and-intro : {a b : Bool} → a ≡ true → b ≡ true → a && b ≡ true
 and-intro {a = true} {b} p q = q
@@ -90,3 +91,15 @@ all-elim (suc n) p a c l = go (bool-cases (eqb c n)) (all-elim n p (and-right (p
     go : (eqb c n ≡ true) ⊎ (eqb c n ≡ false) → (c < n → p c ≡ true) → p c ≡ true
     go (inl e) rec = subst (λ (y : ℕ). p y ≡ true) (sym (eqb-true c n e)) (and-left (p n) (allBelow n p) a)
     go (inr e) rec = let ne : ¬ (c ≡ n) = eqb-false c n e in rec (omega arith)
+
+one-le : (b : Bool) → one b ≤ 1
+one-le true = omega arith
+one-le false = omega arith
+
+pub count-le : (n : ℕ) (p : ℕ → Bool) → countBelow n p ≤ n
+count-le zero p = omega arith
+count-le (suc n) p = omega (arith, one-le (p n), count-le n p)
+
+pub count-cong : (n : ℕ) (p q : ℕ → Bool) → ((i : ℕ) → i < n → p i ≡ q i) → countBelow n p ≡ countBelow n q
+count-cong zero p q e = refl
+count-cong (suc n) p q e = ap₂ (λ (b : Bool) (x : ℕ). one b + x) (e n (omega arith)) (count-cong n p q (λ i l. e i (omega arith)))

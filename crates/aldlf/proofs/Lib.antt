@@ -10,6 +10,7 @@ pub mod Split
 pub mod Same
 pub mod Splitting
 pub mod Packing
+pub mod Outcomes
 pub mod Runs
 pub mod Laws
 pub mod Sequences

@@ -13,7 +13,7 @@ use Rattle.aldlf.specs.Constants.{nodeLimit, stateLimit, entryLimit}
 use Rattle.aldlf.specs.Sheet.{Sheet, bit}
 use Rattle.aldlf.specs.Parts.{counts, join, looksOnly, Sound}
 use Rattle.aldlf.specs.Verdict.{verdict, rowOf, plain}
-use Rattle.aldlf.specs.Outcomes.{packBits, tabulate, bitsOf, packRow, noRow, partWords, logWords, heldIn, firstNo, logFits, Whole, Part, wholeNumber, wholeOutcome, partNumber, partOutcome}
+use Rattle.aldlf.specs.Outcomes.{packBits, tabulate, bitsOf, packRow, noRow, partWords, logWords, firstNo, Part, partNumber, partOutcome}
 use Rattle.aldlf.specs.Run.{Call, Stand, afterCall, runFrom, run, IsPlain, RowOf, Right}
 use Rattle.aldlf.specs.declared.Row.{Row}
 use Rattle.aldlf.specs.declared.Way.{Way}
@@ -22,7 +22,8 @@ use Rattle.aldlf.proofs.Plain.{verdict-iff, row-iff}
 use Rattle.aldlf.proofs.Cut.{nearAt, farAt}
 use Rattle.aldlf.proofs.Same.{judge-same, rowOf-same}
 use Rattle.aldlf.proofs.Splitting.{length-join, split-near, split-far, split-row, cleared}
-use Rattle.aldlf.proofs.Packing.{length-tabulate, getD-tabulate, tabulate-ext, tabulate-join, packBits-lt, bit-pack, bit-pack-high, bitsOf-pack}
+use Rattle.aldlf.proofs.Packing.{length-tabulate, getD-tabulate, tabulate-ext, tabulate-join, packBits-lt, bitsOf-pack, words-length, words-bit, words-unused}
+use Rattle.aldlf.proofs.Outcomes.{whole-words}
 
 -- Verdicts and row of a stand are the joined log's: the row on the bits that count, and whole once a call has returned it
 pub record Fine (w : Way) (S : Sheet) (st : Stand) : Type 0 where
@@ -56,14 +57,10 @@ module _ (w : Way) (S : Sheet) (sound : Sound S) (only : looksOnly w S ≡ true)
   far-right = tabulate-ext (length (st .joined)) _ _ (λ i l. ap (packBits (S .nodes)) (fun-ext (λ k.
       sym (split-far w S only sound x (st .joined) (plain S) (suc k) k i l))))
 
-  length-part : length (partWords S (bitsOf (st .row)) x) ≡ length x
-  unfolding partWords
-  length-part = length-tabulate (length x) _
-
   words-right : (rest : List ℕ) → join w (take (length x) (partWords S (bitsOf (st .row)) x ++ rest)) (st .verdicts) ≡ logWords S (join w x (st .joined))
   unfolding partWords
   words-right rest =
-      ap₂ (join w) (take-at (partWords S (bitsOf (st .row)) x) rest (length x) length-part ∙ near-right) (fine .words ∙ far-right)
+      ap₂ (join w) (take-at (partWords S (bitsOf (st .row)) x) rest (length x) (words-length S (bitsOf (st .row)) x) ∙ near-right) (fine .words ∙ far-right)
       ∙ sym (tabulate-join w (length (join w x (st .joined))) (length x) (length (st .joined)) (length-join w x (st .joined))
       (λ i. packBits (S .nodes) (λ k. verdict S (join w x (st .joined)) k i)))
 
@@ -105,31 +102,6 @@ module _ (given : Bool) (w : Way) (S : Sheet) (sound : given ≡ true → Sound 
   start-fine row plain-row =
       record { words = refl; agrees = λ k s c. plain-row k s c ∙ cleared w S (plain S) k s c; row = λ e. absurd (false≢true e) }
 
--- judging the joined log whole, where that call accepts it
-length-log : (S : Sheet) (log : List ℕ) → length (logWords S log) ≡ length log
-unfolding partWords
-length-log S log = length-tabulate (length log) _
-
-whole-right : (given : Bool) (w : Way) (S : Sheet) (st : Stand) → Fine w S st → (buffer : List ℕ) → wholeOutcome given S (st .joined) buffer .number ≡ 0
-    → take (length (st .joined)) (wholeOutcome given S (st .joined) buffer .buffer) ≡ st .verdicts
-unfolding wholeOutcome wholeNumber
-whole-right given w S st fine buffer = go given (logFits (st .joined)) (leb (length (st .joined)) (length buffer))
-  where
-    answer : ℕ → Whole
-    answer q =
-        elim q [
-          | zero ↦ record { number = 0; held = heldIn S (st .joined); buffer = logWords S (st .joined) ++ drop (length (st .joined)) buffer }
-          | suc q ↦ record { number = suc q; held = 0; buffer = buffer }
-        ]
-
-    go : (b₁ b₂ b₃ : Bool) → let a = answer (firstNo ((b₁, 31) ∷ (b₂, 32) ∷ (b₃, 33) ∷ [])) in
-        a .number ≡ 0 → take (length (st .joined)) (a .buffer) ≡ st .verdicts
-    go false b₂ b₃ e = absurd (omega arith)
-    go true false b₃ e = absurd (omega arith)
-    go true true false e = absurd (omega arith)
-    go true true true e =
-        take-at (logWords S (st .joined)) (drop (length (st .joined)) buffer) (length (st .joined)) (length-log S (st .joined)) ∙ sym (fine .words)
-
 -- a packed row of a log is that log's row
 packed-row : (w : Way) (S : Sheet) (log : List ℕ) → RowOf w S log (packRow (rowOf w S log (plain S)))
 packed-row w S log =
@@ -150,23 +122,17 @@ packed-row w S log =
         rw (List·getD-eq-default (tabulate nodeLimit number) 0 past) (omega arith)
 
 fine-right : (given : Bool) (w : Way) (S : Sheet) (st : Stand) → Fine w S st → Right given w S st
-unfolding partWords
 fine-right given w S st fine =
     record {
-      entries = ap length (fine .words) ∙ length-tabulate (length (st .joined)) word;
-      verdicts = λ i k l lk. Iff·trans
-          (eq-iff (bit (getD (st .verdicts) i 0) k) (verdict S (st .joined) k i) (ap (λ (v : ℕ). bit v k) (at i l) ∙ bit-pack (S .nodes) (λ k. verdict S (st .joined) k i) k lk))
-          (verdict-iff S (st .joined) k i l);
-      unused = λ i k l lk. ap (λ (v : ℕ). bit v k) (at i l) ∙ bit-pack-high (S .nodes) (λ k. verdict S (st .joined) k i) k lk;
+      entries = ap length (fine .words) ∙ words-length S (plain S) (st .joined);
+      verdicts = λ i k l lk. Iff·trans (eq-iff (bit (getD (st .verdicts) i 0) k) (verdict S (st .joined) k i) (bit-at i k ∙ words-bit S (plain S) (st .joined) k i lk l)) (verdict-iff S (st .joined) k i l);
+      unused = λ i k l lk. bit-at i k ∙ words-unused S (plain S) (st .joined) k i lk l;
       row = λ e. rw (fine .row e) (packed-row w S (st .joined));
-      whole = whole-right given w S st fine;
+      whole = λ buffer z. whole-words given S (st .joined) buffer z ∙ sym (fine .words);
     }
   where
-    word : ℕ → ℕ
-    word i = packBits (S .nodes) (λ k. verdict S (st .joined) k i)
-
-    at : (i : ℕ) → i < length (st .joined) → getD (st .verdicts) i 0 ≡ packBits (S .nodes) (λ k. verdict S (st .joined) k i)
-    at i l = ap (λ (v : List ℕ). getD v i 0) (fine .words) ∙ getD-tabulate (length (st .joined)) word i 0 l
+    bit-at : (i k : ℕ) → bit (getD (st .verdicts) i 0) k ≡ bit (getD (logWords S (st .joined)) i 0) k
+    bit-at i k = ap (λ (v : List ℕ). bit (getD v i 0) k) (fine .words)
 
 -- THE RUN THEOREM: every list of calls, from every row that is plain on the bits that count
 pub run-right : (given : Bool) (w : Way) (S : Sheet) → (given ≡ true → Sound S) → (row : Row) → IsPlain S row → (calls : List Call)

@@ -1,11 +1,14 @@
 -- What the calls that judge answer: the questions in order, the result, and the whole content of the lent buffer.
-use Prim.Native.Nat.{ℕ, zero, suc, _+_, _*_, _-_, _^_}
+use Prim.Native.Nat.{ℕ, zero, suc, _+_, _*_, _-_, _^_, _≤_, _<_}
+use mathlib.Core.Path.{_≡_}
+use mathlib.Core.Logic.{_↔_}
 use mathlib.Core.Bool.{Bool, true, false, _&&_}
 use mathlib.Core.List.{List, [], _∷_, _++_}
 use lib.Dec.{leb}
 use lib.ListN.{getD, length, drop, replicate}
 use Rattle.aldlf.specs.Constants.{nodeLimit, stateLimit, entryLimit}
 use Rattle.aldlf.specs.Sheet.{Sheet, bit}
+use Rattle.aldlf.specs.Meaning.{Holds}
 use Rattle.aldlf.specs.Parts.{Bits, counts, looksOnly}
 use Rattle.aldlf.specs.Verdict.{judge, verdict, rowOf, plain}
 use Rattle.aldlf.specs.declared.Row.{Row}
@@ -30,6 +33,10 @@ tabulate (suc n) f = f zero ∷ tabulate n (λ i. f (suc i))
 abbrev pub countBelow : ℕ → (ℕ → Bool) → ℕ
 countBelow zero p = 0
 countBelow (suc n) p = one (p n) + countBelow n p
+
+-- In how many of the first n words bit k is set.
+abbrev pub bitCount : (n : ℕ) → List ℕ → (k : ℕ) → ℕ
+bitCount n words k = countBelow n (λ i. bit (getD words i 0) k)
 
 -- A row as it is handed over: bit s of number k.
 abbrev pub bitsOf : Row → Bits
@@ -88,6 +95,18 @@ wholeOutcome given S log buffer =
       | zero ↦ record { number = 0; held = heldIn S log; buffer = logWords S log ++ drop (length log) buffer }
       | suc q ↦ record { number = suc q; held = 0; buffer = buffer }
     ]
+
+-- DEMAND 2, of the outcome o of judging a log that was accepted, in a buffer that was lent.
+pub record WholeRight (S : Sheet) (log lent : List ℕ) (o : Whole) : Type 0 where
+  -- bit k of word i is Definition 4's verdict on node k at entry i
+  pub verdicts : (i k : ℕ) → i < length log → k < S .nodes → (bit (getD (o .buffer) i 0) k ≡ true) ↔ Holds S log k i
+  -- unused bits are 0
+  pub unused : (i k : ℕ) → i < length log → S .nodes ≤ k → bit (getD (o .buffer) i 0) k ≡ false
+  -- the count is that of the log's words in which the rule's bit is set
+  pub counted : o .held ≡ bitCount (length log) (o .buffer) (S .nodes - 1)
+  -- the buffer has its length, and the words beyond the log are as lent
+  pub size : length (o .buffer) ≡ length lent
+  pub kept : drop (length log) (o .buffer) ≡ drop (length log) lent
 
 -- Questions 31, 34, 32 and 33 of a part.
 unfoldable pub partNumber : Bool → Way → Sheet → List ℕ → List ℕ → ℕ

@@ -11,21 +11,28 @@ use lib.ListN.{getD, length, set, length-set, take, drop, replicate, length-appe
 use lib.Seq.{ext-getD, getD-set-same, getD-set-other, length-take-le, drop-cons, set-at, append-snoc, take-suc, take-at}
 use borrow.Author.Tests.{eqb-true, eqb-false, ltb-true, ltb-false}
 use Rattle.aldlf.specs.Constants.{nodeLimit}
-use Rattle.aldlf.specs.Outcomes.{one, packBits, countBelow, tabulate}
-use Rattle.aldlf.proofs.Bools.{bool-cases}
-use Rattle.aldlf.proofs.Packing.{length-tabulate, getD-tabulate}
+use Rattle.aldlf.specs.Sheet.{bit}
+use Rattle.aldlf.specs.Outcomes.{one, packBits, bitCount, tabulate}
+use Rattle.aldlf.proofs.Bools.{bool-cases, count-cong}
+use Rattle.aldlf.proofs.Packing.{length-tabulate, getD-tabulate, bit-top}
 use Rattle.reach.specs.Marks.{at, verdictAdded}
 use Rattle.judge.specs.Nodes.{Added, Filled}
 
 pub added-none : (k : ℕ) (f : ℕ → Bool) (l : List ℕ) → Added k f 0 l l 0
 added-none k f l = record { counted = refl; same = refl; done = λ i h. absurd (omega arith); rest = λ i h. refl }
 
--- place n: F tells the verdict from the word before
+-- a word of the nodes below k and the verdict on k
+added-is : (w k : ℕ) (on : Bool) → verdictAdded w k on ≡ one on * 2 ^ k + w
+added-is w k true = omega arith
+added-is w k false = omega arith
+
+-- place n: F tells the verdict from the word before; the bit that it sets is counted
 pub added-turn : (k : ℕ) (F : ℕ → ℕ → Bool) (n : ℕ) (before after : List ℕ) (on : Bool) (v held held2 : ℕ) → Added k (λ i. F i (at before i)) n before after held → n < length before
-    → on ≡ F n (at after n) → v ≡ verdictAdded (at after n) k on → held2 ≡ one on + held → Added k (λ i. F i (at before i)) (n + 1) before (set after n v) held2
-added-turn k F n before after on v held held2 a l o e c =
+    → at after n < 2 ^ k → on ≡ F n (at after n) → v ≡ verdictAdded (at after n) k on → held2 ≡ one on + held → Added k (λ i. F i (at before i)) (n + 1) before (set after n v) held2
+added-turn k F n before after on v held held2 a l low o e c =
     record {
-      counted = c ∙ ap₂ (λ (b : Bool) (x : ℕ). one b + x) (o ∙ ap (F n) was) (a .counted) ∙ ap (λ (m : ℕ). countBelow m (λ i. F i (at before i))) (sym (add-one n));
+      counted = c ∙ ap₂ (λ (b : Bool) (x : ℕ). one b + x) (sym set-here) (a .counted ∙ count-cong n (λ i. bit (at after i) k) (λ i. bit (at (set after n v) i) k) set-there)
+          ∙ ap (λ (m : ℕ). bitCount m (set after n v) k) (sym (add-one n));
       same = length-set after n v ∙ a .same;
       done = λ i h. now-at i h (bool-cases (eqb i n));
       rest = λ i h. getD-set-other after n i v 0 (omega arith) ∙ a .rest i (omega arith);
@@ -34,24 +41,18 @@ added-turn k F n before after on v held held2 a l o e c =
     was : at after n ≡ at before n
     was = a .rest n (omega arith)
 
+    set-here : bit (at (set after n v) n) k ≡ on
+    set-here = ap (λ (w : ℕ). bit w k) (getD-set-same after n v 0 (omega (arith, a .same)) ∙ e ∙ added-is (at after n) k on) ∙ bit-top (at after n) k on low
+
+    set-there : (i : ℕ) → i < n → bit (at after i) k ≡ bit (at (set after n v) i) k
+    set-there i h = ap (λ (w : ℕ). bit w k) (sym (getD-set-other after n i v 0 (omega arith)))
+
     now-is : v ≡ verdictAdded (at before n) k (F n (at before n))
     now-is = e ∙ ap (verdictAdded (at after n) k) o ∙ ap (λ (x : ℕ). verdictAdded x k (F n x)) was
 
     now-at : (i : ℕ) → i < n + 1 → (eqb i n ≡ true) ⊎ (eqb i n ≡ false) → at (set after n v) i ≡ verdictAdded (at before i) k (F i (at before i))
     now-at i h (inl p) = subst (λ (j : ℕ). at (set after n v) j ≡ verdictAdded (at before j) k (F j (at before j))) (sym (eqb-true i n p)) (getD-set-same after n v 0 (omega (arith, a .same)) ∙ now-is)
     now-at i h (inr p) = let ne = eqb-false i n p in getD-set-other after n i v 0 ne ∙ a .done i (omega arith)
-
-pub count-le : (n : ℕ) (f : ℕ → Bool) → countBelow n f ≤ n
-count-le zero f = omega arith
-count-le (suc n) f = let a = one-le (f n) in let b = count-le n f in omega arith
-  where
-    one-le : (b : Bool) → one b ≤ 1
-    one-le true = omega arith
-    one-le false = omega arith
-
-pub count-cong : (n : ℕ) (f g : ℕ → Bool) → ((i : ℕ) → i < n → f i ≡ g i) → countBelow n f ≡ countBelow n g
-count-cong zero f g e = refl
-count-cong (suc n) f g e = ap₂ (λ (b : Bool) (x : ℕ). one b + x) (e n (omega arith)) (count-cong n f g (λ i l. e i (omega arith)))
 
 -- one word more in the first places of a buffer
 pub put-next : (buffer words : List ℕ) (i : ℕ) → i < length buffer → i < length words → set (take i words ++ drop i buffer) i (getD words i 0) ≡ take (i + 1) words ++ drop (i + 1) buffer
@@ -112,8 +113,4 @@ module _ (f : ℕ → ℕ) where
 
 -- a word with one verdict more
 pub word-next : (p : ℕ → Bool) (k w : ℕ) (on : Bool) (r : ℕ) → w ≡ packBits k p → on ≡ p k → r ≡ verdictAdded w k on → r ≡ packBits (k + 1) p
-word-next p k w on r e o z = z ∙ go on ∙ ap₂ (λ (b : Bool) (x : ℕ). one b * 2 ^ k + x) o e ∙ ap (λ (m : ℕ). packBits m p) (sym (add-one k))
-  where
-    go : (b : Bool) → verdictAdded w k b ≡ one b * 2 ^ k + w
-    go true = omega arith
-    go false = omega arith
+word-next p k w on r e o z = z ∙ added-is w k on ∙ ap₂ (λ (b : Bool) (x : ℕ). one b * 2 ^ k + x) o e ∙ ap (λ (m : ℕ). packBits m p) (sym (add-one k))

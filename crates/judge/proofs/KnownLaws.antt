@@ -86,7 +86,7 @@ module _ (t : Table) (row : Row) (j : Job) (log edges words : List ℕ) (K : Kno
       let b = subst (λ (l : NodeLine). Added k (λ i. saysNow (lineOf (l .kind) (l .a) (l .b)) (at log i) (at words i)) (length words) words after held) (K .line-is) a in
       let right = plain-bits S ρ log k words (K .words-are) p in
       record {
-        held-is = added-count S ρ log k words (K .words-are) says after held b right;
+        held-is = added-count S ρ log k words (K .words-are) says after held b;
         words-are = added-words S ρ log k words (K .words-are) says after held b right;
         row-is = sym (plain-number S (S .line k) p (λ s. rowOf (j .way) S log ρ k s) (λ s. inner (j .way) S log ρ k s) (λ s. row-form (j .way) S log ρ k s));
       }

@@ -1,5 +1,5 @@
 -- Helper definitions that only the proofs of the code need: a node judged from the words of those before it, and what is known on the way.
-use Prim.Native.Nat.{ℕ, zero, suc, _+_, _-_, _*_, _^_, _%_, _≤_, _<_}
+use Prim.Native.Nat.{ℕ, suc, _+_, _-_, _*_, _^_, _%_, _≤_, _<_}
 use mathlib.Core.Path.{_≡_}
 use mathlib.Core.Logic.{_⊎_}
 use mathlib.Core.Bool.{Bool, true, false, not, _&&_, _||_}
@@ -10,7 +10,7 @@ use Rattle.aldlf.specs.Constants.{nodeLimit, automatonLimit, stateLimit, letter
 use Rattle.aldlf.specs.Sheet.{Sheet, Line, T, F, P, N, A, O, D, B, bit, sheetOf}
 use Rattle.aldlf.specs.Parts.{Bits, rowEntry}
 use Rattle.aldlf.specs.Verdict.{facing, judge, rowOf}
-use Rattle.aldlf.specs.Outcomes.{packBits, countBelow, bitsOf, packRow, partWords}
+use Rattle.aldlf.specs.Outcomes.{packBits, bitCount, bitsOf, packRow, partWords}
 use Rattle.aldlf.specs.declared.Table.{Table}
 use Rattle.aldlf.specs.declared.Row.{Row}
 use Rattle.aldlf.specs.declared.NodeLine.{NodeLine}
@@ -59,9 +59,9 @@ rowNumber j want M = pick (eqb (length M) 0) (j .given) (facingMask (at M (rowEn
 abbrev pub plainNumber : NodeLine → (states : ℕ) → ℕ
 plainNumber l states = pick (eqb (l .kind) letterB) (65535 % 2 ^ states) 0
 
--- Verdicts on node k were added to the first n words, as f says, yes in `held` of them.
+-- Verdicts on node k were added to the first n words, as f says; `held` is in how many of these words its bit is set.
 pub record Added (k : ℕ) (f : ℕ → Bool) (n : ℕ) (before after : List ℕ) (held : ℕ) : Type 0 where
-  pub counted : held ≡ countBelow n f
+  pub counted : held ≡ bitCount n after k
   pub same : length after ≡ length before
   pub done : (i : ℕ) → i < n → at after i ≡ verdictAdded (at before i) k (f i)
   pub rest : (i : ℕ) → n ≤ i → at after i ≡ at before i
@@ -95,11 +95,6 @@ pub record Filled (f : ℕ → ℕ) (out : List ℕ) (k : ℕ) : Type 0 where
   pub done : (j : ℕ) → j < k → getD out j 0 ≡ f j
   pub left : (j : ℕ) → k ≤ j → getD out j 0 ≡ 0
 
--- At how many entries the last of the first k nodes holds.
-abbrev pub heldAfter : Sheet → Bits → List ℕ → ℕ → ℕ
-heldAfter S ρ log zero = 0
-heldAfter S ρ log (suc k) = countBelow (length log) (λ i. judge S log ρ (suc k) k i)
-
 -- What is known where a node is judged.
 pub record Known (t : Table) (row : Row) (j : Job) (log edges words : List ℕ) : Type 0 where
   pub lent : Lent t edges
@@ -109,9 +104,9 @@ pub record Known (t : Table) (row : Row) (j : Job) (log edges words : List ℕ) 
   pub given-is : j .given ≡ getD (row .bits) (j .number .0) 0
   pub words-are : Words (sheetOf t) (bitsOf row) log (j .number .0) words
 
--- A node is judged.
+-- A node is judged; the count is that of its own bits in the words.
 pub record NodeDone (t : Table) (row : Row) (j : Job) (log words : List ℕ) (r : NodeAnswer) : Type 0 where
-  pub held-is : r .held ≡ heldAfter (sheetOf t) (bitsOf row) log (j .number .0 + 1)
+  pub held-is : r .held ≡ bitCount (length log) words (j .number .0)
   pub words-are : Words (sheetOf t) (bitsOf row) log (j .number .0 + 1) words
   pub row-is : r .number ≡ packBits stateLimit (λ s. rowOf (j .way) (sheetOf t) log (bitsOf row) (j .number .0) s)
 
@@ -137,17 +132,17 @@ pub record Ready (t : Table) (j : Job) (edges words : List ℕ) (have : Have) (C
   pub kept : Kept t edges words (j .number .0) have C
   pub mine : modalKind (j .line .kind) ≡ true → Stepped (cutOf (j .automaton) edges) words (have .looks) C
 
--- All nodes are judged.
+-- All nodes are judged; the count is that of the last one's bits in the words.
 pub record CoreDone (t : Table) (p : Part) (log words : List ℕ) (r : CoreAnswer) : Type 0 where
   pub row-is : r .row ≡ packRow (rowOf (p .way) (sheetOf t) log (bitsOf (p .row)))
   pub words-are : words ≡ partWords (sheetOf t) (bitsOf (p .row)) log
-  pub held-is : r .held ≡ heldAfter (sheetOf t) (bitsOf (p .row)) log (t .used .nodes)
+  pub held-is : r .held ≡ bitCount (length log) words (t .used .nodes - 1)
 
--- The first k nodes are judged, and whose steps are at hand.
+-- The first k nodes are judged, the count is that of the last one's bits, and whose steps are at hand.
 pub record Through (t : Table) (p : Part) (log numbers words steps out : List ℕ) (held : ℕ) (have : Have) (k : ℕ) : Type 0 where
   pub words-are : Words (sheetOf t) (bitsOf (p .row)) log k words
   pub row-is : Filled (λ j. packBits stateLimit (λ s. rowOf (p .way) (sheetOf t) log (bitsOf (p .row)) j s)) out k
-  pub held-is : held ≡ heldAfter (sheetOf t) (bitsOf (p .row)) log k
+  pub held-is : 1 ≤ k → held ≡ bitCount (length log) words (k - 1)
   pub kept : Kept t numbers words k have steps
 
 -- The same, with the words in the first places of a buffer and the rest of it kept.

@@ -1,4 +1,4 @@
-// One node at all entries: its bits added to the words, its number in the row, and the count of entries at which it holds.
+// One node at all entries: its bits added to the words and counted as they are set, and its number in the row.
 use super::lines::is_modal;
 use super::lines::plain_line;
 use super::rows::facing_mask;
@@ -91,7 +91,7 @@ pub(crate) fn judge_node(
     judge_modal(job, looks, words, steps, masks)
 }
 
-// A line that is no D or B.
+// A line that is no D or B: its bits, and how many of them it set.
 fn judge_plain(line: NodeLine, number: Node, log: &[u32], words: &mut [u64]) -> usize
     requires { ⌜ PlainFits line ⌝ }
     requires { ⌜ (number .0 < nodeLimit) × (length (now words) ≡ length (now log)) × ((i : ℕ) → i < length (now words) → at (now words) i < 2 ^ number .0) ⌝ }
@@ -137,22 +137,22 @@ fn judge_modal(
     NodeAnswer { number, held }
 }
 
-// A D or B node's bits, from the masks at its automaton's start.
+// A D or B node's bits, from the masks at its automaton's start, and how many of them it set.
 fn write_modal(job: Job, want: bool, masks: &[u16], words: &mut [u64]) -> usize
     requires { ⌜ (job .automaton .start .0 < 64) × (job .number .0 < nodeLimit) × (length (now words) ≡ length (now masks)) × ((i : ℕ) → i < length (now words) → at (now words) i < 2 ^ job .number .0) ⌝ }
     ensures { λ r. ⌜ Added (job .number .0) (λ i. facing want (bitOf (at (now (masks .entry)) i) (job .automaton .start .0))) (length (now (words .entry))) (now (words .entry)) (now (words .exit)) r ⌝ }
 {
     let n = masks.len();
-    let mut held: usize = 0;
+    let mut set: usize = 0;
     let mut i: usize = 0;
     while i < n {
         let x = masks[i] as u64;
         let on = reach::facing(want, reach::bit(x, job.automaton.start.0));
         words[i] = reach::with_verdict(words[i], job.number, on);
-        held = counted(held, on);
+        set = counted(set, on);
         i += 1;
     }
-    held
+    set
 }
 
 // One more where it is on.

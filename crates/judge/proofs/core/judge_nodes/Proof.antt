@@ -1,7 +1,7 @@
 -- `judge_nodes` meets its contract: the words, the row and the count of the nodes passed, and whose steps are at hand. Assumes nothing.
 use Prim.Native.Nat.{_*_, _-_, _<_, _≤_, ℕ}
 use Rattle.aldlf.specs.Constants.{automatonLimit, nodeLimit}
-use Rattle.aldlf.specs.Outcomes.{bitsOf}
+use Rattle.aldlf.specs.Outcomes.{bitCount, bitsOf}
 use Rattle.aldlf.specs.Sheet.{sheetOf}
 use Rattle.aldlf.specs.declared.NodeLine.{NodeLine}
 use Rattle.aldlf.specs.declared.Table.{Table}
@@ -10,8 +10,8 @@ use Rattle.judge.proofs.Adds.{filled-end, filled-next, filled-start}
 use Rattle.judge.proofs.GivenLaws.{automaton-there, none-after}
 use Rattle.judge.proofs.RowLaws.{inner, row-form}
 use Rattle.judge.proofs.StepLaws.{kept-next, kept-none}
-use Rattle.judge.proofs.WordLaws.{words-end, words-none}
-use Rattle.judge.specs.Nodes.{Known, Ready, Through, heldAfter, modalKind}
+use Rattle.judge.proofs.WordLaws.{held-last, words-end, words-none}
+use Rattle.judge.specs.Nodes.{Known, Ready, Through, modalKind}
 use Rattle.judge.specs.Prepared.{Lent}
 use Rattle.judge.specs.declared.nodes.Job.{Job}
 use Rattle.packing.specs.Numbers.{lentUsed}
@@ -84,7 +84,7 @@ loop-holds c = let S = c .before .before .before .before .before .before .before
       ap (λ (u : Used). u .nodes) (c .used-in .ensures),
       n .2,
       refl,
-      λ t L. record { words-are = words-none _ _ _ _ (n .0) (S .pre .1 .1); row-is = filled-start _; held-is = refl; kept = kept-none _ _ _ _ 0 _ refl (n .1 ∙ ap (λ (z : ℕ). 49 * z) (sym (n .0))) },
+      λ t L. record { words-are = words-none _ _ _ _ (n .0) (S .pre .1 .1); row-is = filled-start _; held-is = λ l. absurd (omega arith); kept = kept-none _ _ _ _ 0 _ refl (n .1 ∙ ap (λ (z : ℕ). 49 * z) (sym (n .0))) },
     )
 
 line-at-requires : tie.Need-line-at-requires Inv-loop μ-loop
@@ -151,7 +151,7 @@ loop-again c = let S = c .before .before .before .before .before .before .before
           record {
             words-are = d .words-are;
             row-is = filled-next _ (l .out) (l .k) (r .result .number) (k-in (c .before .before .before .before .before .before .before .before .before .before .before .before .before .before .before .before .before)) (so .row-is) (d .row-is);
-            held-is = d .held-is;
+            held-is = λ _. held-last (length (now (S .args .log))) (r .last .1 .1 .1 .0) (l .k) (r .result .held) (d .held-is);
             kept = kept-next t (S .args .part .row) (now (S .args .log)) (now (S .args .numbers)) (l .words) _ _ (l .k) _ L (so .words-are) (d .words-are) (ready .kept);
           },
     )
@@ -181,7 +181,7 @@ returns c = let S = c .before .before .before .before .before .before .before .b
           none-after t (L .facts) j (omega (arith, end)) _ (λ s. inner (p .way) (sheetOf t) (now (S .args .log)) (bitsOf (p .row)) j s)
           (λ s. row-form (p .way) (sheetOf t) (now (S .args .log)) (bitsOf (p .row)) j s)));
       words-are = words-end (sheetOf t) (bitsOf (p .row)) (now (S .args .log)) (l .k) (l .words) (so .words-are) end;
-      held-is = so .held-is ∙ ap (heldAfter (sheetOf t) (bitsOf (p .row)) (now (S .args .log))) end;
+      held-is = so .held-is (omega (arith, end, L .facts .some-node)) ∙ ap (λ (k : ℕ). bitCount (length (now (S .args .log))) (l .words) (k - 1)) end;
     }
 
 pub judge-nodes-spec : {M : Type 1} → statement M

@@ -7,8 +7,8 @@ use Rattle.aldlf.specs.Run.{IsPlain}
 use Rattle.aldlf.specs.Sheet.{sheetOf}
 use Rattle.aldlf.specs.declared.Table.{Table}
 use Rattle.judge.proofs.GivenLaws.{plain-is-plain, sound}
-use Rattle.judge.proofs.OutcomeLaws.{whole-accepted, whole-held, whole-refused, whole-words}
-use Rattle.judge.proofs.QuestionLaws.{three-yes}
+use Rattle.aldlf.proofs.Outcomes.{three-yes, whole-accepted, whole-refused}
+use Rattle.judge.proofs.OutcomeLaws.{plain-held, plain-words}
 use Rattle.judge.specs.Prepared.{Lent}
 use Rattle.packing.specs.Packed.{Packed}
 use Rattle.sheet.proofs.Facts.{table-facts}
@@ -70,8 +70,8 @@ returns-2 c = let S = c .before .before .before .before .before .before .before 
           let d = c .before .before .judge-core .ensures t L in
           let is-plain = subst (IsPlain T) (sym (row .ensures t L)) (plain-is-plain t (L .facts)) in
           whole-accepted (wellFormed t) T log (now (S .args .verdicts)) _ _ (sym (q .ensures t P) ∙ no)
-          (d .done .held-is ∙ whole-held T (sound t (L .facts)) (row .result) is-plain log (L .facts .some-node))
-          (d .put ∙ ap (λ (l : List ℕ). l ++ drop (length log) (now (S .args .verdicts))) (d .done .words-are ∙ whole-words T (sound t (L .facts)) (row .result) is-plain log)),
+          (d .done .held-is ∙ plain-held T (sound t (L .facts)) (row .result) is-plain log (L .facts .some-node) _ (d .done .words-are))
+          (d .put ∙ ap (λ (l : List ℕ). l ++ drop (length log) (now (S .args .verdicts))) (d .done .words-are ∙ plain-words T (sound t (L .facts)) (row .result) is-plain log)),
       λ t P. sym (eq-eqb _ 0 (sym (q .ensures t P) ∙ no)),
     )
 

@@ -5,7 +5,7 @@ use Rattle.aldlf.specs.Sheet.{sheetOf}
 use Rattle.aldlf.specs.declared.Table.{Table}
 use Rattle.judge.specs.Prepared.{Prepared}
 use Rattle.judge.proofs.GivenLaws.{plain-is-plain, sound}
-use Rattle.judge.proofs.OutcomeLaws.{whole-held, whole-words}
+use Rattle.judge.proofs.OutcomeLaws.{plain-held, plain-words}
 use denote.Ref.{now}
 use lib.ListN.{drop, length}
 use mathlib.Core.List.{List, _++_}
@@ -30,8 +30,8 @@ returns c = let S = c .before .before .before .before .before .before .before in
     let log = now (S .args .log) in
     let d = c .before .before .judge-core .ensures in
     let is-plain : (t : Table) → Prepared t row (now (S .args .numbers)) → IsPlain (sheetOf t) row = λ t P. subst (IsPlain (sheetOf t)) (sym (P .plain-is)) (plain-is-plain t (P .lent .facts)) in (
-      λ t P. d t (P .lent) .done .held-is ∙ whole-held (sheetOf t) (sound t (P .lent .facts)) row (is-plain t P) log (P .lent .facts .some-node),
-      λ t P. d t (P .lent) .put ∙ ap (λ (l : List ℕ). l ++ drop (length log) (now (S .args .verdicts))) (d t (P .lent) .done .words-are ∙ whole-words (sheetOf t) (sound t (P .lent .facts)) row (is-plain t P) log),
+      λ t P. d t (P .lent) .done .held-is ∙ plain-held (sheetOf t) (sound t (P .lent .facts)) row (is-plain t P) log (P .lent .facts .some-node) _ (d t (P .lent) .done .words-are),
+      λ t P. d t (P .lent) .put ∙ ap (λ (l : List ℕ). l ++ drop (length log) (now (S .args .verdicts))) (d t (P .lent) .done .words-are ∙ plain-words (sheetOf t) (sound t (P .lent .facts)) row (is-plain t P) log),
     )
 
 pub judge-log-spec : {M : Type 1} → statement M

@@ -1,0 +1,109 @@
+-- JUDGING A WHOLE LOG, of the defined outcome: what it is accepted and refused, and DEMAND 2: its bits are Definition 4's verdicts, its count is that of the rule's bits.
+use Prim.Native.Nat.{ℕ, zero, suc, _-_, _≤_, _<_}
+use native.Mathlib.Omega.{arith}
+use mathlib.Core.Path.{_≡_, refl, sym, ap, ap₂, _∙_}
+use mathlib.Core.Logic.{Iff·trans}
+use mathlib.Core.Bool.{Bool, true, false}
+use mathlib.Core.List.{List, [], _∷_, _++_}
+use lib.Dec.{leb}
+use lib.ListN.{getD, length, take, drop, length-append, length-drop, List·getD-append}
+use lib.Seq.{take-at, drop-append-seam}
+use borrow.Author.Tests.{leb-true}
+use Rattle.aldlf.specs.Sheet.{Sheet, bit}
+use Rattle.aldlf.specs.Verdict.{verdict, plain}
+use Rattle.aldlf.specs.Outcomes.{bitCount, logWords, heldIn, firstNo, logFits, Whole, wholeNumber, wholeOutcome, WholeRight}
+use Rattle.aldlf.proofs.Bools.{eq-iff, count-le, count-cong}
+use Rattle.aldlf.proofs.Plain.{verdict-iff}
+use Rattle.aldlf.proofs.Packing.{words-length, words-bit, words-unused}
+
+-- The count ---------------------------------------------------------------------------------------------------------------------
+
+-- the rule holds at no more entries than there are
+pub held-le : (S : Sheet) (log : List ℕ) → heldIn S log ≤ length log
+unfolding heldIn
+held-le S log = count-le (length log) _
+
+-- and at as many as there are words of the log with the rule's bit set
+pub held-bits : (S : Sheet) (log : List ℕ) → 1 ≤ S .nodes → heldIn S log ≡ bitCount (length log) (logWords S log) (S .nodes - 1)
+unfolding heldIn
+held-bits S log some =
+    count-cong (length log) (λ i. verdict S log (S .nodes - 1) i) (λ i. bit (getD (logWords S log) i 0) (S .nodes - 1))
+    (λ i l. sym (words-bit S (plain S) log (S .nodes - 1) i (omega arith) l))
+
+-- The outcome -------------------------------------------------------------------------------------------------------------------
+
+-- all three questions got a yes
+pub three-yes : (a b c : Bool) → firstNo ((a, 31) ∷ (b, 32) ∷ (c, 33) ∷ []) ≡ 0 → (a ≡ true) × (b ≡ true) × (c ≡ true)
+three-yes true true true e = (refl, refl, refl)
+three-yes true true false e = absurd (omega arith)
+three-yes true false c e = absurd (omega arith)
+three-yes false b c e = absurd (omega arith)
+
+module _ (given : Bool) (S : Sheet) (log buffer : List ℕ) where
+  -- by the number of the first question that gets a no
+  abbrev by-number : ℕ → Whole
+  by-number q =
+      elim q [
+        | zero ↦ record { number = 0; held = heldIn S log; buffer = logWords S log ++ drop (length log) buffer }
+        | suc q ↦ record { number = suc q; held = 0; buffer = buffer }
+      ]
+
+  number-is : (q : ℕ) → by-number q .number ≡ q
+  number-is zero = refl
+  number-is (suc q) = refl
+
+  pub whole-number : wholeOutcome given S log buffer .number ≡ wholeNumber given log buffer
+  unfolding wholeOutcome
+  whole-number = number-is (wholeNumber given log buffer)
+
+  pub whole-refused : (q : ℕ) → q ≡ wholeNumber given log buffer → ¬ (q ≡ 0) → record { number = q; held = 0; buffer = buffer } ≡ wholeOutcome given S log buffer
+  unfolding wholeOutcome
+  whole-refused q e ne = go q ne ∙ ap by-number e
+    where
+      go : (q : ℕ) → ¬ (q ≡ 0) → record { number = q; held = 0; buffer = buffer } ≡ by-number q
+      go zero ne = absurd (ne refl)
+      go (suc q) ne = refl
+
+  pub whole-accepted : (held : ℕ) (out : List ℕ) → wholeNumber given log buffer ≡ 0 → held ≡ heldIn S log → out ≡ logWords S log ++ drop (length log) buffer
+      → record { number = 0; held = held; buffer = out } ≡ wholeOutcome given S log buffer
+  unfolding wholeOutcome
+  whole-accepted held out e h o = ap₂ (λ (n : ℕ) (l : List ℕ). record { number = 0; held = n; buffer = l }) h o ∙ ap by-number (sym e)
+
+  -- Where it is accepted
+  module _ (z : wholeOutcome given S log buffer .number ≡ 0) where
+    accepted-is : record { number = 0; held = heldIn S log; buffer = logWords S log ++ drop (length log) buffer } ≡ wholeOutcome given S log buffer
+    accepted-is = whole-accepted (heldIn S log) (logWords S log ++ drop (length log) buffer) (sym whole-number ∙ z) refl refl
+
+    pub whole-yes : (given ≡ true) × (logFits log ≡ true) × (leb (length log) (length buffer) ≡ true)
+    unfolding wholeNumber
+    whole-yes = three-yes given (logFits log) (leb (length log) (length buffer)) (sym whole-number ∙ z)
+
+    pub whole-held : wholeOutcome given S log buffer .held ≡ heldIn S log
+    whole-held = sym (ap (λ (o : Whole). o .held) accepted-is)
+
+    pub whole-buffer : wholeOutcome given S log buffer .buffer ≡ logWords S log ++ drop (length log) buffer
+    whole-buffer = sym (ap (λ (o : Whole). o .buffer) accepted-is)
+
+    -- the log's words are in the first places
+    pub whole-words : take (length log) (wholeOutcome given S log buffer .buffer) ≡ logWords S log
+    whole-words = ap (take (length log)) whole-buffer ∙ take-at (logWords S log) (drop (length log) buffer) (length log) (words-length S (plain S) log)
+
+    pub whole-word : (i : ℕ) → i < length log → getD (wholeOutcome given S log buffer .buffer) i 0 ≡ getD (logWords S log) i 0
+    whole-word i l = ap (λ (b : List ℕ). getD b i 0) whole-buffer ∙ List·getD-append (logWords S log) (drop (length log) buffer) 0 i (omega (arith, words-length S (plain S) log))
+
+    -- DEMAND 2
+    pub whole-right : 1 ≤ S .nodes → WholeRight S log buffer (wholeOutcome given S log buffer)
+    whole-right some =
+        record {
+          verdicts = λ i k l lk. Iff·trans
+              (eq-iff (bit (getD (wholeOutcome given S log buffer .buffer) i 0) k) (verdict S log k i) (ap (λ (w : ℕ). bit w k) (whole-word i l) ∙ words-bit S (plain S) log k i lk l))
+              (verdict-iff S log k i l);
+          unused = λ i k l lk. ap (λ (w : ℕ). bit w k) (whole-word i l) ∙ words-unused S (plain S) log k i lk l;
+          counted =
+              whole-held ∙ held-bits S log some
+              ∙ count-cong (length log) (λ i. bit (getD (logWords S log) i 0) (S .nodes - 1)) (λ i. bit (getD (wholeOutcome given S log buffer .buffer) i 0) (S .nodes - 1))
+              (λ i l. ap (λ (w : ℕ). bit w (S .nodes - 1)) (sym (whole-word i l)));
+          size = ap length whole-buffer
+              ∙ omega (arith, length-append (logWords S log) (drop (length log) buffer), words-length S (plain S) log, length-drop (length log) buffer, leb-true (length log) (length buffer) (whole-yes .2));
+          kept = ap₂ drop (sym (words-length S (plain S) log)) whole-buffer ∙ drop-append-seam (logWords S log) (drop (length log) buffer);
+        }
