@@ -261,6 +261,29 @@ fn numbers_that_are_no_tables_are_31() {
     }
 }
 
+/// In how many words bit 2 is set: W's rule is node 2.
+fn rule_bits(verdicts: &[u64]) -> usize {
+    verdicts.iter().filter(|word| **word & 4 != 0).count()
+}
+
+#[test]
+fn the_count_is_that_of_the_rules_bits_whole_and_in_parts() {
+    let log = [1, 2, 4, 1, 2, 0];
+    let mut whole = [9; 7];
+    assert_eq!(judge(&table(), &log, &mut whole), 5, "fact 1 comes at entries 1 and 4, so not after entry 4");
+    assert_eq!(whole, [0b101, 0b111, 0b101, 0b101, 0b111, 0b001, 9]);
+    assert_eq!(rule_bits(&whole[..6]), 5);
+
+    let (mut row, mut held) = ([7; ROW], 0);
+    assert_eq!(plain_row(&table(), &mut row), 0);
+    for part in [4..6, 3..3, 0..4] {
+        let mut verdicts = vec![9; part.len()];
+        assert_eq!(judge_part(&table(), 1, &mut row, &log[part], &mut verdicts), 0);
+        held += rule_bits(&verdicts);
+    }
+    assert_eq!(held, 5, "the parts' rule bits are the whole log's");
+}
+
 #[test]
 fn many_logs_are_asked_31_then_32_then_33() {
     let (mut verdicts, mut held) = ([9; 3], [7; 2]);

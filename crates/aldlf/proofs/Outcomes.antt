@@ -81,14 +81,14 @@ module _ (given : Bool) (S : Sheet) (log buffer : List ℕ) where
     pub whole-held : wholeOutcome given S log buffer .held ≡ heldIn S log
     whole-held = sym (ap (λ (o : Whole). o .held) accepted-is)
 
-    pub whole-buffer : wholeOutcome given S log buffer .buffer ≡ logWords S log ++ drop (length log) buffer
+    whole-buffer : wholeOutcome given S log buffer .buffer ≡ logWords S log ++ drop (length log) buffer
     whole-buffer = sym (ap (λ (o : Whole). o .buffer) accepted-is)
 
     -- the log's words are in the first places
     pub whole-words : take (length log) (wholeOutcome given S log buffer .buffer) ≡ logWords S log
     whole-words = ap (take (length log)) whole-buffer ∙ take-at (logWords S log) (drop (length log) buffer) (length log) (words-length S (plain S) log)
 
-    pub whole-word : (i : ℕ) → i < length log → getD (wholeOutcome given S log buffer .buffer) i 0 ≡ getD (logWords S log) i 0
+    whole-word : (i : ℕ) → i < length log → getD (wholeOutcome given S log buffer .buffer) i 0 ≡ getD (logWords S log) i 0
     whole-word i l = ap (λ (b : List ℕ). getD b i 0) whole-buffer ∙ List·getD-append (logWords S log) (drop (length log) buffer) 0 i (omega (arith, words-length S (plain S) log))
 
     -- DEMAND 2

@@ -1,20 +1,25 @@
--- EACH LOG OF AN ACCEPTED LIST IS JUDGED AS BY ITSELF: what stands at its place in both buffers is what judging it alone gives.
-use Prim.Native.Nat.{ℕ, zero, suc, _+_, _≤_, _<_}
+-- EACH LOG OF AN ACCEPTED LIST IS JUDGED AS BY ITSELF: what stands at its place in both buffers is what judging it alone gives, and its count is that of the rule's bits there.
+use Prim.Native.Nat.{ℕ, zero, suc, _+_, _-_, _≤_, _<_}
 use native.Mathlib.Omega.{arith}
 use mathlib.Core.Path.{_≡_, refl, sym, ap, ap₂, _∙_}
 use mathlib.Core.Bool.{Bool, true}
 use mathlib.Core.List.{List, [], _∷_, _++_, append-assoc}
 use lib.ListN.{length, take, drop, getD, length-drop}
-use lib.Seq.{take-at, drop-append-add, drop-drop, length-take-le}
-use Rattle.aldlf.specs.Sheet.{Sheet, sheetOf}
-use Rattle.aldlf.specs.Outcomes.{Whole, logWords, heldIn, wholeOutcome}
+use lib.Seq.{take-at, drop-append-add, drop-drop, length-take-le, getD-take}
+use Rattle.aldlf.specs.Sheet.{Sheet, bit, sheetOf}
+use Rattle.aldlf.specs.Verdict.{plain}
+use Rattle.aldlf.specs.Outcomes.{Whole, bitCount, logWords, heldIn, wholeOutcome}
 use Rattle.aldlf.specs.declared.Table.{Table}
+use Rattle.aldlf.proofs.Bools.{count-cong}
+use Rattle.aldlf.proofs.Packing.{words-length}
+use Rattle.aldlf.proofs.Outcomes.{held-bits}
 use Rattle.sheet.specs.Given.{wellFormed}
+use Rattle.sheet.proofs.Facts.{table-facts}
 use Rattle.batch.specs.declared.BatchAnswer.{BatchAnswer}
 use Rattle.batch.specs.Right.{logAt}
 use Rattle.batch.specs.Batch.{logsOf, total, wordsOf, countsOf, firstLog, fits, answerTo, BatchOutcome, batchEnds, verdictsAfter, heldAfter, batchOutcome}
 use Rattle.batch.proofs.Firsts.{fits-yes, all-pass, misfit-yes, fits-within}
-use Rattle.batch.proofs.Single.{words-long, whole-is}
+use Rattle.batch.proofs.Single.{whole-is}
 use Rattle.batch.proofs.Answers.{accepted, ends-judged, number-is}
 
 -- The logs by their places ----------------------------------------------------------------------------------------------------
@@ -39,7 +44,7 @@ past front back n m e = ap (λ (k : ℕ). drop (k + m) (front ++ back)) (sym e) 
 
 module _ (S : Sheet) where
   first-long : (words : List ℕ) (n : ℕ) → n ≤ length words → length (logWords S (take n words)) ≡ n
-  first-long words n l = words-long S (take n words) ∙ length-take-le n words l
+  first-long words n l = words-length S (plain S) (take n words) ∙ length-take-le n words l
 
   words-at : (words ns rest : List ℕ) → total ns ≤ length words → (j : ℕ) → j < length ns
       → take (getD ns j 0) (drop (total (take j ns)) (wordsOf S (logsOf words ns) ++ rest)) ≡ logWords S (getD (logsOf words ns) j [])
@@ -77,22 +82,37 @@ module _ (given : Bool) (S : Sheet) (words ns verdicts held : List ℕ) (z : bat
   unfolding answer
   ends-so = sym (ends-judged given S words ns verdicts held answer refl (sym (number-is given S words ns verdicts held answer refl) ∙ z) _ _ refl refl)
 
-  module _ (j : ℕ) (h : j < length ns) (buffer : List ℕ) (room : getD ns j 0 ≤ length buffer) where
+  module _ (j : ℕ) (h : j < length ns) where
     size : length (listed words ns j) ≡ getD ns j 0
     size = log-size words ns (omega (arith, yes-all .2)) j h
 
-    alone : wholeOutcome given S (listed words ns j) buffer ≡ record {
+    count-there : getD (batchOutcome given S words ns verdicts held .held) j 0 ≡ heldIn S (listed words ns j)
+    count-there = ap (λ (o : BatchOutcome). getD (o .held) j 0) ends-so ∙ count-at S words ns (drop (length ns) held) j h
+
+    words-there : take (getD ns j 0) (drop (total (take j ns)) (batchOutcome given S words ns verdicts held .verdicts)) ≡ logWords S (listed words ns j)
+    words-there =
+        ap (λ (o : BatchOutcome). take (getD ns j 0) (drop (total (take j ns)) (o .verdicts))) ends-so ∙ words-at S words ns (drop (length words) verdicts) (omega (arith, yes-all .2)) j h
+
+    alone : (buffer : List ℕ) → getD ns j 0 ≤ length buffer → wholeOutcome given S (listed words ns j) buffer ≡ record {
       number = 0;
       held = getD (batchOutcome given S words ns verdicts held .held) j 0;
       buffer = take (getD ns j 0) (drop (total (take j ns)) (batchOutcome given S words ns verdicts held .verdicts)) ++ drop (getD ns j 0) buffer;
     }
-    alone =
+    alone buffer room =
         let fit = fits-yes (length words) j (total (take j ns)) (getD ns j 0) (all-pass (fits (length words)) ns (yes-all .1) j h) in
         whole-is given S (listed words ns j) buffer (yes-all .0) (omega (arith, size, fit .some)) (omega (arith, size, fit .few)) (omega (arith, size))
-        ∙ ap₂ (λ (c : ℕ) (l : List ℕ). judged c (l ++ drop (length (listed words ns j)) buffer))
-        (sym (ap (λ (o : BatchOutcome). getD (o .held) j 0) ends-so ∙ count-at S words ns (drop (length ns) held) j h))
-        (sym (ap (λ (o : BatchOutcome). take (getD ns j 0) (drop (total (take j ns)) (o .verdicts))) ends-so ∙ words-at S words ns (drop (length words) verdicts) (omega (arith, yes-all .2)) j h))
+        ∙ ap₂ (λ (c : ℕ) (l : List ℕ). judged c (l ++ drop (length (listed words ns j)) buffer)) (sym count-there) (sym words-there)
         ∙ ap (λ (n : ℕ). judged (getD (batchOutcome given S words ns verdicts held .held) j 0) (take (getD ns j 0) (drop (total (take j ns)) (batchOutcome given S words ns verdicts held .verdicts)) ++ drop n buffer)) size
+
+    bits-there : 1 ≤ S .nodes
+        → getD (batchOutcome given S words ns verdicts held .held) j 0 ≡ bitCount (getD ns j 0) (drop (total (take j ns)) (batchOutcome given S words ns verdicts held .verdicts)) (S .nodes - 1)
+    bits-there some =
+        let log = listed words ns j in
+        let place = drop (total (take j ns)) (batchOutcome given S words ns verdicts held .verdicts) in
+        count-there ∙ held-bits S log some
+        ∙ ap (λ (n : ℕ). bitCount n (logWords S log) (S .nodes - 1)) size
+        ∙ count-cong (getD ns j 0) (λ i. bit (getD (logWords S log) i 0) (S .nodes - 1)) (λ i. bit (getD place i 0) (S .nodes - 1))
+        (λ i l. ap (λ (w : ℕ). bit w (S .nodes - 1)) (ap (λ (ws : List ℕ). getD ws i 0) (sym words-there) ∙ getD-take (getD ns j 0) place i 0 l))
 
 -- the theorem, of the call's outcome: log j's words stand at its place, after those of the logs before it, and its count in place j
 pub each-judged : (t : Table) (words lengths verdicts held : List ℕ)
@@ -108,3 +128,10 @@ pub each-judged : (t : Table) (words lengths verdicts held : List ℕ)
 each-judged t words lengths verdicts held z j h buffer room =
     ap (λ (log : List ℕ). wholeOutcome (wellFormed t) (sheetOf t) log buffer) (sym (log-at words lengths j h))
     ∙ alone (wellFormed t) (sheetOf t) words lengths verdicts held z j h buffer room
+
+-- and the count in place j is that of log j's words, at their place, in which the rule's bit is set
+pub each-counted : (t : Table) (words lengths verdicts held : List ℕ) → let o = batchOutcome (wellFormed t) (sheetOf t) words lengths verdicts held in
+    o .number ≡ 0 → (j : ℕ) → j < length lengths → getD (o .held) j 0 ≡ bitCount (getD lengths j 0) (drop (total (take j lengths)) (o .verdicts)) (sheetOf t .nodes - 1)
+unfolding sheetOf
+each-counted t words lengths verdicts held z j h =
+    bits-there (wellFormed t) (sheetOf t) words lengths verdicts held z j h (table-facts t (yes-all (wellFormed t) (sheetOf t) words lengths verdicts held z .0) .some-node)

@@ -7,11 +7,12 @@ use mathlib.Core.List.{List, [], _∷_, _++_, append-nil, append-assoc}
 use lib.ListN.{length, take, drop, set, getD, length-append, length-drop}
 use lib.Seq.{drop-cons, drop-drop, take-at, drop-at, set-at, append-snoc, take-all, length-take-le}
 use Rattle.aldlf.specs.Sheet.{Sheet}
+use Rattle.aldlf.specs.Verdict.{plain}
 use Rattle.aldlf.specs.Outcomes.{logWords, heldIn}
+use Rattle.aldlf.proofs.Packing.{words-length}
 use Rattle.batch.specs.Right.{logAt}
 use Rattle.batch.specs.Batch.{logsOf, total, wordsOf, countsOf, firstLog, fits, hasRoom, misfit, roomless, verdictsAfter, heldAfter}
 use Rattle.batch.proofs.Firsts.{Fits, fits-yes, room-yes, first-yes, total-next, total-all, misfit-yes}
-use Rattle.batch.proofs.Single.{words-long}
 
 -- One log more --------------------------------------------------------------------------------------------------------------
 
@@ -138,7 +139,7 @@ module _ (S : Sheet) (words ns lent lentHeld verdicts held : List ℕ) (at k : �
         let front = wordsOf S (logsOf words (take k ns)) in
         let counts = countsOf S (logsOf words (take k ns)) in
         let log = take m (drop at words) in
-        let long : length (logWords S log) ≡ getD ns k 0 = words-long S log ∙ log-long in
+        let long : length (logWords S log) ≡ getD ns k 0 = words-length S (plain S) log ∙ log-long in
         let few : length counts ≡ k = counts-long S words (take k ns) ∙ length-take-le k ns (J .k≤) in
         record {
           k≤ = omega arith;

@@ -1,33 +1,14 @@
 -- One log that all questions are answered of: judging it accepts, with the log's own words and count.
-use Prim.Native.Nat.{ℕ, zero, suc, _≤_}
-use native.Mathlib.Omega.{arith}
+use Prim.Native.Nat.{ℕ, _≤_}
 use mathlib.Core.Path.{_≡_, refl, sym}
-use mathlib.Core.Bool.{Bool, true, false}
+use mathlib.Core.Bool.{Bool, true}
 use mathlib.Core.List.{List, _++_}
 use lib.ListN.{length, drop}
 use borrow.Author.Tests.{le-leb}
 use Rattle.aldlf.specs.Constants.{entryLimit}
 use Rattle.aldlf.specs.Sheet.{Sheet}
-use Rattle.aldlf.specs.Outcomes.{partWords, logWords, heldIn, countBelow, one, wholeNumber, wholeOutcome}
-use Rattle.aldlf.proofs.Packing.{length-tabulate}
-use Rattle.judge.proofs.OutcomeLaws.{whole-accepted}
-
-pub words-long : (S : Sheet) (log : List ℕ) → length (logWords S log) ≡ length log
-unfolding partWords
-words-long S log = length-tabulate (length log) _
-
--- the rule holds at no more entries than there are
-pub held-few : (S : Sheet) (log : List ℕ) → heldIn S log ≤ length log
-unfolding heldIn
-held-few S log = go (length log) _
-  where
-    one-le : (b : Bool) → one b ≤ 1
-    one-le true = omega arith
-    one-le false = omega arith
-
-    go : (n : ℕ) (p : ℕ → Bool) → countBelow n p ≤ n
-    go zero p = omega arith
-    go (suc n) p = omega (arith, one-le (p n), go n p)
+use Rattle.aldlf.specs.Outcomes.{logWords, heldIn, wholeNumber, wholeOutcome}
+use Rattle.aldlf.proofs.Outcomes.{whole-accepted}
 
 module _ (given : Bool) (S : Sheet) (log buffer : List ℕ) (yes : given ≡ true) (some : 1 ≤ length log) (few : length log ≤ entryLimit) (room : length log ≤ length buffer) where
   pub number-0 : wholeNumber given log buffer ≡ 0

@@ -14,13 +14,12 @@ use Rattle.aldlf.specs.declared.Table.{Table}
 use Rattle.aldlf.specs.declared.Row.{Row}
 use Rattle.aldlf.specs.declared.Way.{Way}
 use Rattle.aldlf.proofs.Bools.{and-right}
+use Rattle.aldlf.proofs.Outcomes.{held-le, whole-yes, whole-held}
 use Rattle.sheet.specs.Given.{wellFormed}
 use Rattle.judge.specs.declared.Judged.{Judged}
 use Rattle.judge.specs.declared.Judged.the-variants.{Held, Refused}
 use Rattle.judge.specs.declared.PartAnswer.{PartAnswer}
 use Rattle.judge.specs.Answers.{wholeOf, partOf, plainAnswerOf}
-use Rattle.report.proofs.Answers.{whole-yes, whole-held}
-use Rattle.report.proofs.Numbers.{held-le}
 use Rattle.crossing.specs.Numbers.{tableOf, rowOf}
 use Rattle.exports.specs.Answers.{answerCode, accepted, refusal, Outcome, outcome}
 use Rattle.exports.specs.Judging.{judged, judgeOutcome, plainInto, plainOutcome, isWay, wayOf, partEnds, partJudged, judgePartOutcome}

@@ -1,16 +1,17 @@
--- The answers of the calls, case by case, as the outcomes that the page is defined over; and what an outcome without a refusal says.
+-- The answers of the calls, case by case, as the outcomes that the page is defined over.
 use Prim.Native.Nat.{ℕ, zero, suc, _≤_}
 use mathlib.Core.Path.{_≡_, refl, ap, sym, _∙_}
-use mathlib.Core.Bool.{Bool, true}
+use mathlib.Core.Bool.{Bool}
 use mathlib.Core.List.{List, _++_}
 use native.Mathlib.Omega.{arith}
 use borrow.Author.Tests.{leb-true, eqb-false}
 use lib.ListN.{length, take, drop, length-append}
 use lib.Seq.{take-at}
-use lib.Dec.{eqb, leb}
+use lib.Dec.{eqb}
 use Rattle.aldlf.specs.Sheet.{Sheet}
-use Rattle.aldlf.specs.Outcomes.{Whole, logFits, logWords, heldIn, wholeNumber, wholeOutcome}
+use Rattle.aldlf.specs.Outcomes.{Whole, wholeNumber, wholeOutcome}
 use Rattle.aldlf.specs.Walks.{Shown}
+use Rattle.aldlf.proofs.Outcomes.{whole-number, whole-yes}
 use Rattle.walk.specs.Answer as walk
 use Rattle.walk.specs.declared.WalkAnswer.{WalkAnswer}
 use Rattle.walk.specs.declared.WalkAnswer.the-variants as walked
@@ -21,7 +22,6 @@ use Rattle.joblog.proofs.Told.{told-read}
 use Rattle.joblog.specs.declared.LogAnswer.{LogAnswer}
 use Rattle.joblog.specs.declared.LogAnswer.the-variants as logged
 use Rattle.judge.specs.Answers.{wholeOf, isHeld}
-use Rattle.judge.proofs.QuestionLaws.{three-yes}
 use Rattle.judge.specs.declared.Judged.{Judged}
 use Rattle.judge.specs.declared.Judged.the-variants as judged
 use Rattle.lines.specs.Lines.{refusalLine, verdictLines, walkLine}
@@ -40,38 +40,9 @@ refused-line rule n rest zero new z = absurd (z refl)
 refused-line rule n rest (suc q) new z = refl
 
 module _ (given : Bool) (S : Sheet) (log buffer : List ℕ) where
-  abbrev whole-at : ℕ → Whole
-  whole-at q =
-      elim q [
-        | zero ↦ record { number = 0; held = heldIn S log; buffer = logWords S log ++ drop (length log) buffer }
-        | suc q ↦ record { number = suc q; held = 0; buffer = buffer }
-      ]
-
-  number-at : (q : ℕ) → whole-at q .number ≡ q
-  number-at zero = refl
-  number-at (suc q) = refl
-
-  -- the number of a judging's outcome is that of the first question that gets a no
-  pub whole-number : wholeOutcome given S log buffer .number ≡ wholeNumber given log buffer
-  unfolding wholeOutcome
-  whole-number = number-at (wholeNumber given log buffer)
-
-  -- an accepted judging: questions 31 to 33 get a yes
-  pub whole-yes : wholeOutcome given S log buffer .number ≡ 0 → (given ≡ true) × (logFits log ≡ true) × (leb (length log) (length buffer) ≡ true)
-  unfolding wholeNumber
-  whole-yes e = three-yes given (logFits log) (leb (length log) (length buffer)) (sym whole-number ∙ e)
-
-  pub whole-held : wholeOutcome given S log buffer .number ≡ 0 → wholeOutcome given S log buffer .held ≡ heldIn S log
-  unfolding wholeOutcome
-  whole-held e = ap (λ (q : ℕ). whole-at q .held) (sym whole-number ∙ e)
-
-  pub whole-buffer : wholeOutcome given S log buffer .number ≡ 0 → wholeOutcome given S log buffer .buffer ≡ logWords S log ++ drop (length log) buffer
-  unfolding wholeOutcome
-  whole-buffer e = ap (λ (q : ℕ). whole-at q .buffer) (sym whole-number ∙ e)
-
   -- the answer Held: there are as many places as entries, and the page goes on with the verdicts
   pub held-room : (a : Judged) (h : ℕ) (new : List ℕ) → a ≡ judged.Held h → wholeOf a new ≡ wholeOutcome given S log buffer → length log ≤ length buffer
-  held-room a h new r e = leb-true (length log) (length buffer) (whole-yes (ap (λ (w : Whole). w .number) (sym e ∙ ap (λ (x : Judged). wholeOf x new) r)) .2)
+  held-room a h new r e = leb-true (length log) (length buffer) (whole-yes given S log buffer (ap (λ (w : Whole). w .number) (sym e ∙ ap (λ (x : Judged). wholeOf x new) r)) .2)
 
   pub held-page : (rule n : ℕ) (rest : List ℕ) (a : Judged) (h : ℕ) (new : List ℕ) → a ≡ judged.Held h → wholeOf a new ≡ wholeOutcome given S log buffer
       → verdictLines rule h (take n new) ++ rest ≡ judgedPage rule n rest (wholeOutcome given S log buffer)
@@ -83,7 +54,7 @@ module _ (given : Bool) (S : Sheet) (log buffer : List ℕ) where
       → isHeld a ≡ eqb (wholeNumber given log buffer) 0 → refusalLine q 0 ≡ judgedPage rule n rest (wholeOutcome given S log buffer)
   refused-page rule n rest a q new r e f =
       let w : wholeOf (judged.Refused q) new ≡ wholeOutcome given S log buffer = ap (λ (x : Judged). wholeOf x new) (sym r) ∙ e in
-      let n₁ : q ≡ wholeNumber given log buffer = ap (λ (x : Whole). x .number) w ∙ whole-number in
+      let n₁ : q ≡ wholeNumber given log buffer = ap (λ (x : Whole). x .number) w ∙ whole-number given S log buffer in
       let z : wholeNumber given log buffer ≡ 0 → ⊥ = eqb-false (wholeNumber given log buffer) 0 (sym (ap isHeld (sym r) ∙ f)) in
       refused-line rule n rest q new (λ e₀. z (sym n₁ ∙ e₀)) ∙ ap (judgedPage rule n rest) w
 

@@ -14,6 +14,7 @@ use Rattle.aldlf.specs.Outcomes.{logFits, wholeNumber, wholeOutcome}
 use Rattle.aldlf.specs.Walks.{Shown, edgesOf, walkOf, walkOutcome}
 use Rattle.aldlf.specs.declared.Table.{Table}
 use Rattle.aldlf.proofs.Bools.{and-left, and-right}
+use Rattle.aldlf.proofs.Outcomes.{held-le, whole-number, whole-yes, whole-held}
 use Rattle.text.specs.Text.{byteLimit}
 use Rattle.sheet.specs.Questions.{readSheet}
 use Rattle.sheet.specs.Given.{wellFormed}
@@ -28,8 +29,7 @@ use Rattle.report.specs.Page.{walkLimit, pageLimit, ruleOf, refusedWalk,
 use Rattle.report.specs.declared.PageAnswer.{PageAnswer}
 use Rattle.lines.proofs.Lengths.{refusal-length, verdicts-length, walk-length}
 use Rattle.report.proofs.Placed.{placed-fits, placed-count}
-use Rattle.report.proofs.Numbers.{first-le, Small, sheet-small, held-le, edges-small}
-use Rattle.report.proofs.Answers.{whole-number, whole-yes, whole-held}
+use Rattle.report.proofs.Numbers.{first-le, Small, sheet-small, edges-small}
 
 refused-walk-length : (q : ℕ) → q ≤ 40 → length (refusedWalk q) ≤ 17
 unfolding refusedWalk noWalkLine

@@ -1,4 +1,4 @@
--- The numbers that a page prints are small: those of questions and lines, the count held, and the edges of a walk.
+-- The numbers that a page prints are small: those of questions and lines, and the edges of a walk.
 use Prim.Native.Nat.{ℕ, zero, suc, _+_, _≤_, _<_}
 use mathlib.Core.Path.{_≡_, refl, ap}
 use mathlib.Core.Logic.{_⊎_, inl, inr, ⊎-elim}
@@ -12,7 +12,7 @@ use lib.Dec.{eqb, ltb, leb}
 use Rattle.aldlf.specs.Constants.{automatonLimit, edgeLimit, letterM}
 use Rattle.aldlf.specs.Sheet.{Sheet, Line, T, F, P, N, A, O, D, B, sheetOf}
 use Rattle.aldlf.specs.Meaning.{Values, Walk}
-use Rattle.aldlf.specs.Outcomes.{one, countBelow, firstNo, heldIn}
+use Rattle.aldlf.specs.Outcomes.{firstNo}
 use Rattle.aldlf.specs.Walks.{ShowsLine, walkOf, edgesOf}
 use Rattle.aldlf.specs.declared.Table.{Table}
 use Rattle.aldlf.proofs.Bools.{bool-cases, lt-or-le}
@@ -141,20 +141,7 @@ sheet-small text = go (bool-cases (leb (length text) byteLimit))
         (record { number≤ = omega arith; line≤ = omega arith }))
     go (inr e) = rw e (record { number≤ = omega arith; line≤ = omega arith })
 
--- The verdicts and the walk ---------------------------------------------------------------------------------------------------
-
-one-le : (b : Bool) → one b ≤ 1
-one-le true = omega arith
-one-le false = omega arith
-
-count-le : (n : ℕ) (p : ℕ → Bool) → countBelow n p ≤ n
-count-le zero p = omega arith
-count-le (suc n) p = omega (arith, one-le (p n), count-le n p)
-
--- the rule holds at no more entries than there are
-pub held-le : (S : Sheet) (log : List ℕ) → heldIn S log ≤ length log
-unfolding heldIn
-held-le S log = count-le (length log) _
+-- The walk --------------------------------------------------------------------------------------------------------------------
 
 -- an automaton's edges have numbers below 256
 automaton-small : (t : Table) → TableFacts t → (m : ℕ) → sheetOf t .automaton m .first + sheetOf t .automaton m .count ≤ edgeLimit

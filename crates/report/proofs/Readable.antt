@@ -17,6 +17,7 @@ use Rattle.aldlf.specs.Outcomes.{firstNo, logFits, logWords, heldIn, wholeNumbe
 use Rattle.aldlf.specs.Walks.{walkBy, walkOf, walkOutcome}
 use Rattle.aldlf.specs.declared.Table.{Table}
 use Rattle.aldlf.proofs.Bools.{bool-cases, and-intro}
+use Rattle.aldlf.proofs.Outcomes.{whole-number, whole-held, whole-words}
 use Rattle.sheet.specs.Questions.{readSheet}
 use Rattle.sheet.specs.Given.{wellFormed}
 use Rattle.sheet.proofs.Facts.{table-facts}
@@ -28,10 +29,8 @@ use Rattle.walk.proofs.Shown.{short}
 use Rattle.lines.specs.Lines.{verdictLines, walkLine, noWalkLine}
 use Rattle.report.specs.Page.{walkLimit, ruleOf, refusedWalk, shownLine, walkPage, judgedPage, tablePage, logPage, pageOf}
 use Rattle.report.specs.Readable.{walkOrNone, readPage}
-use Rattle.report.proofs.Answers.{whole-number, whole-held, whole-buffer}
 use Rattle.report.proofs.Accepted.{sheet-accepted}
 use Rattle.report.proofs.Pages.{sheet-read}
-use Rattle.report.proofs.Printed.{words-length}
 
 all-yes : (a b c : Bool) → a ≡ true → b ≡ true → c ≡ true → firstNo ((a, 31) ∷ (b, 32) ∷ (c, 33) ∷ []) ≡ 0
 all-yes a b c p q r = rw (p, q, r)
@@ -83,9 +82,7 @@ module _ (t : Table) (log : List ℕ) (given : wellFormed t ≡ true) (some-entr
 
   -- the words that the page reads are those of the log
   words : take (length log) (wholeOutcome (wellFormed t) S log (replicate entryLimit 0) .buffer) ≡ logWords S log
-  words =
-      ap (take (length log)) (whole-buffer (wellFormed t) S log (replicate entryLimit 0) judged)
-      ∙ take-at (logWords S log) (drop (length log) (replicate entryLimit 0)) (length log) (words-length S log)
+  words = whole-words (wellFormed t) S log (replicate entryLimit 0) judged
 
   rule-there : ltb (ruleOf t) (S .nodes) ≡ true
   unfolding sheetOf

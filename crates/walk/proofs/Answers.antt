@@ -1,5 +1,5 @@
 -- What the search answers for a D or B line of a given table is what document 01 asks: the defined walk, or question 39 or 40.
-use Prim.Native.Nat.{ℕ, suc, _+_, _*_, _%_, _≤_, _<_}
+use Prim.Native.Nat.{ℕ, _+_, _*_, _%_, _≤_, _<_}
 use native.Mathlib.Omega.{arith}
 use mathlib.Core.Path.{_≡_, refl, sym, ap, ap₂, subst, _∙_}
 use mathlib.Core.Logic.{_⊎_, inl, inr}
@@ -12,8 +12,7 @@ use lib.Dec.{eqb, leb, ltb}
 use lib.ListN.{length, drop}
 use Rattle.aldlf.specs.Constants.{letterF, letterP, letterN, letterA, letterO, letterD, letterB}
 use Rattle.aldlf.specs.Sheet.{Sheet, Line, T, F, P, N, A, O, D, B, byMode, sheetOf, lineOf, bit}
-use Rattle.aldlf.specs.Verdict.{facing, goal, judge, verdict, plain}
-use Rattle.aldlf.specs.Outcomes.{packBits, partWords, logWords}
+use Rattle.aldlf.specs.Verdict.{facing, goal, judge, plain}
 use Rattle.aldlf.specs.Walks.{walkBy, walkTo, walkOf, walkOutcome}
 use Rattle.aldlf.specs.Walks as walks
 use Rattle.aldlf.specs.declared.Automaton.{Automaton}
@@ -22,7 +21,7 @@ use Rattle.aldlf.specs.declared.NodeLine.{NodeLine}
 use Rattle.aldlf.specs.declared.Table.{Table}
 use Rattle.aldlf.proofs.Bools.{and-right, or-cases, bool-cases}
 use Rattle.aldlf.proofs.Laws.{judge-below}
-use Rattle.aldlf.proofs.Packing.{length-tabulate, getD-tabulate, bit-pack}
+use Rattle.aldlf.proofs.Packing.{words-length, words-bit}
 use Rattle.aldlf.proofs.Short.{found}
 use Rattle.sheet.specs.Facts.{nodeAt, automatonAt, edgeAt, ModalFacts, TableFacts}
 use Rattle.sheet.proofs.Facts.{tests-below}
@@ -39,17 +38,6 @@ use Rattle.walk.proofs.Agreement.{Agrees, edgeOf, found-far, found-near
 use Rattle.walk.proofs.Questions.{refusal, byRoom, shownBy, outcome-36, outcome-37, outcome-38, outcome-walk}
 
 -- Any sheet ---------------------------------------------------------------------------------------------------------------------
-
--- bit k of word i is the verdict
-pub word-bit : (S : Sheet) (log : List ℕ) (k i : ℕ) → k < S .nodes → i < length log → bit (at (logWords S log) i) k ≡ verdict S log k i
-unfolding partWords
-word-bit S log k i lk li =
-    ap (λ (w : ℕ). bit w k) (getD-tabulate (length log) (λ j. packBits (S .nodes) (λ a. judge S log (plain S) (suc a) a j)) i 0 li)
-    ∙ bit-pack (S .nodes) (λ a. judge S log (plain S) (suc a) a i) k lk
-
-pub words-long : (S : Sheet) (log : List ℕ) → length (logWords S log) ≡ length log
-unfolding partWords
-words-long S log = length-tabulate (length log) (λ j. packBits (S .nodes) (λ a. judge S log (plain S) (suc a) a j))
 
 module _
     (S : Sheet)
@@ -140,7 +128,7 @@ not-modal t k e =
 -- the log of the words
 module _ (t : Table) (words log : List ℕ) (W : JudgedLog t words log) where
   pub judged-long : length words ≡ length log
-  judged-long = ap length (W .words-are) ∙ words-long (sheetOf t) log
+  judged-long = ap length (W .words-are) ∙ words-length (sheetOf t) (plain (sheetOf t)) log
 
   pub judged-few : length words ≤ 512
   judged-few = let l = leb-true (length log) 512 (and-right (leb 1 (length log)) (leb (length log) 512) (W .fits)) in omega (arith, judged-long)
@@ -225,7 +213,7 @@ module _ (t : Table) (log : List ℕ) (k i : ℕ) (facts : TableFacts t) (lk : k
     value-is : (a j : ℕ) → a < k → j < length log → h a j ≡ bit (at words j) a
     value-is a j la lj =
         judge-below S log (plain S) k a j la
-        ∙ (sym (word-bit S log a j (earlier-in a la) lj) ∙ ap (λ (l : List ℕ). bit (at l j) a) (sym (W .words-are)))
+        ∙ (sym (words-bit S (plain S) log a j (earlier-in a la) lj) ∙ ap (λ (l : List ℕ). bit (at l j) a) (sym (W .words-are)))
 
     edge-same : (e : ℕ) → q .first ≤ e → e < q .first + q .count → unpackedOf (at (f .arcs) e) ≡ edgeAt t e
     edge-same e lo hi = f .chained .edge-is e lo hi

@@ -7,7 +7,7 @@ use denote.Ref.{now}
 use Rattle.aldlf.specs.Sheet.{sheetOf}
 use Rattle.aldlf.specs.declared.Table.{Table}
 use Rattle.judge.specs.Prepared.{Prepared}
-use Rattle.batch.proofs.Single.{held-few}
+use Rattle.aldlf.proofs.Outcomes.{held-le}
 use Rattle.batch.proofs.Places.{Judged, start, Turn, turn, same-verdicts, same-held, log-long, room-long, next, all-words, all-counts}
 use borrow.Author.Needs.{needs}
 use Rattle.batch.proofs.logs.judge_each.Statement.{statement}
@@ -112,7 +112,7 @@ cast-held c =
     let w = S .pre .0 in
     let l = c .before .before .before .before .before .before .before .loop in
     let n = getD (now (a .lengths)) (l .k) 0 in
-    omega (arith, c .before .before .judge-one .ensures .1 (w .0) (w .1), held-few (sheetOf (w .0)) (take (l .at + n - l .at) (drop (l .at) (now (a .words)))), cut (c .before .before .before .before .before .before), known (c .before .before .before .before .before .before) .log .few)
+    omega (arith, c .before .before .judge-one .ensures .1 (w .0) (w .1), held-le (sheetOf (w .0)) (take (l .at + n - l .at) (drop (l .at) (now (a .words)))), cut (c .before .before .before .before .before .before), known (c .before .before .before .before .before .before) .log .few)
 
 mul-held : tie.Need-mul-held Inv-loop μ-loop
 mul-held c = let t = known (c .before .before .before .before .before .before) .held-room in let e = long-held (c .before .before .before .before .before .before .before) in omega arith

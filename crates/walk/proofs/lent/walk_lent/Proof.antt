@@ -22,13 +22,13 @@ accepted : (c : tie.After-enum-told) → let S = c .before .before .before .befo
 accepted c t P =
     let S = c .before .before .before .before .before .before .before .before in
     let j = c .before .before .before .judge-lent in
-    accepted-log t (now (S .args .log)) _ (j .last .1 .1 .0) (j .result) (c .enum-told .given .0 .0) (c .enum-told .given .1) (j .ensures .0 t P) (j .ensures .1 t P)
+    accepted-log t (now (S .args .log)) _ (j .last .1 .1 .0) (j .result) (c .enum-told .given .0 .0) (c .enum-told .given .1) (j .ensures .0 t P)
 
 room : (c : tie.After-enum-told) → length (now (c .before .before .before .before .before .before .before .before .args .log)) ≤ 512
 room c =
     let S = c .before .before .before .before .before .before .before .before in
     let j = c .before .before .before .judge-lent in
-    accepted-room (S .pre .0) (now (S .args .log)) _ (j .last .1 .1 .0) (j .result) (c .enum-told .given .0 .0) (c .enum-told .given .1) (j .ensures .0 (S .pre .0) (S .pre .1)) (j .ensures .1 (S .pre .0) (S .pre .1))
+    accepted-room (S .pre .0) (now (S .args .log)) _ (j .last .1 .1 .0) (j .result) (c .enum-told .given .0 .0) (c .enum-told .given .1) (j .ensures .0 (S .pre .0) (S .pre .1))
 
 lent-log : (c : tie.After-enum-told) → let S = c .before .before .before .before .before .before .before .before in (t : Table) → Packed t (now (S .args .numbers)) → LentLog t (now (S .args .numbers)) (take (length (now (S .args .log))) (c .before .before .before .judge-lent .last .1 .1 .0)) (now (S .args .log))
 lent-log c t P = let a = accepted c t P in record { lent = record { facts = table-facts t (a .0); packed = P }; judged = a .1 }
