@@ -5,6 +5,7 @@ pub mod Rounds
 pub mod Decide
 pub mod Agree
 pub mod Plain
+pub mod Across
 pub mod Cut
 pub mod Split
 pub mod Same
@@ -13,6 +14,7 @@ pub mod Packing
 pub mod Outcomes
 pub mod Runs
 pub mod Laws
+pub mod ByLine
 pub mod Sequences
 pub mod Search
 pub mod Short

@@ -8,7 +8,7 @@ use lib.ListN.{length}
 use Rattle.aldlf.specs.Constants.{stateLimit}
 use Rattle.aldlf.specs.Sheet.{bit}
 use Rattle.aldlf.specs.Verdict.{facing}
-use Rattle.aldlf.proofs.Same.{reached-cong}
+use Rattle.aldlf.proofs.Across.{reached-cong}
 use Rattle.reach.specs.declared.Goal.{Goal}
 use Rattle.reach.specs.Marks.{at, pick, sliceSheet, holdsIn, goalOf, EdgesFit, Reaching}
 use Rattle.reach.specs.Steps.{reachedFrom, seedOf, Seeded, Marking, allDue, noneDue}

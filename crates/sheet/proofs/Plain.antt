@@ -28,7 +28,8 @@ from-append (x ∷ xs) ys i p = from-append xs ys (i + 1) (set p i (plainNode p 
     e : i + 1 + length xs ≡ i + suc (length xs)
     e = omega arith
 
-from-keep : (ys : List NodeLine) (i k : ℕ) (p : List Bool) (d : Bool) → k < i → getD (plainFrom ys i p) k d ≡ getD p k d
+-- flags below the place at hand are not written again
+pub from-keep : (ys : List NodeLine) (i k : ℕ) (p : List Bool) (d : Bool) → k < i → getD (plainFrom ys i p) k d ≡ getD p k d
 unfolding plainFrom
 from-keep [] i k p d h = refl
 from-keep (y ∷ ys) i k p d h = from-keep ys (i + 1) k (set p i (plainNode p y)) d (omega arith) ∙ getD-set-other p i k (plainNode p y) d (omega arith)

@@ -1,4 +1,5 @@
 // The reading of the lines so far, and the same with one line more.
+use super::empty::empty_table;
 use super::line::Line;
 use super::questions::last_of;
 use aldlf::Automaton;
@@ -7,11 +8,10 @@ use aldlf::Node;
 use aldlf::NodeLine;
 use aldlf::State;
 use aldlf::Table;
-use aldlf::Used;
 ghost use mathlib.Core.Path.{_≡_};
 ghost use Prim.Native.Nat.{_<_, _^_};
 ghost use Rattle.aldlf.specs.Constants.{stateLimit};
-ghost use Rattle.sheet.specs.Questions.{emptyTable, start, withNode, withAutomaton, withAccepting, withEdge, withLine, opens, added};
+ghost use Rattle.sheet.specs.Questions.{start, withNode, withAutomaton, withAccepting, withEdge, withLine, opens, added};
 ghost use Rattle.sheet.specs.Room.{NodeRoom, AutomatonRoom, AcceptingRoom, EdgeRoom, LineRoom};
 
 // The table so far, whether the line before is M, G or E, and the line number of each M line.
@@ -19,46 +19,6 @@ pub(crate) struct Reading {
     pub(crate) table: Table,
     pub(crate) inside: bool,
     pub(crate) mlines: [u16; aldlf::AUTOMATA],
-}
-
-pub(crate) fn empty_table() -> Table
-    ensures { λ r. ⌜ r ≡ emptyTable ⌝ }
-{
-    let x = NodeLine {
-        kind: 0,
-        a: 0,
-        b: 0,
-    };
-    let z = State(0);
-    let m = Automaton {
-        states: 0,
-        start: z,
-        accepting: 0,
-        first: 0,
-        count: 0,
-        before: 0,
-    };
-    let n = Node(0);
-    let e = Edge {
-        from: z,
-        dir: 0,
-        test: n,
-        to: z,
-    };
-    let nodes = [x; aldlf::NODES];
-    let automata = [m; aldlf::AUTOMATA];
-    let edges = [e; aldlf::EDGES];
-    let used = Used {
-        nodes: 0,
-        automata: 0,
-        edges: 0,
-    };
-    Table {
-        nodes,
-        automata,
-        edges,
-        used,
-    }
 }
 
 // The reading before the first line.

@@ -1,15 +1,16 @@
 // Reading a rule sheet to its table (document 01's questions 1 to 11), and which tables some sheet gives (question 31).
 mod build;
 mod closing;
+pub mod empty;
 mod given;
 mod line;
 mod questions;
 
 use aldlf::Table;
 use build::added_to;
-use build::empty_table;
 use build::start_reading;
 use closing::finish_of;
+use empty::empty_table;
 use line::parse_line;
 use questions::question_of;
 ghost use mathlib.Core.Path.{_≡_};

@@ -1,0 +1,3 @@
+pub mod Profile
+pub mod Right
+pub mod Room
