@@ -1,14 +1,16 @@
--- What the calls answer, as one number, and what they leave in a lent slice: reading a sheet and reading a log, steps between counters and the entry that bears one.
+-- What the calls answer, as one number, and what they leave in a lent slice: reading a sheet, its profile, reading a log, steps between counters and the entry that bears one.
 use Prim.Native.Nat.{ℕ, _+_, _*_}
 use mathlib.Core.Bool.{cond}
 use mathlib.Core.List.{List}
 use lib.Dec.{eqb}
 use lib.ListN.{length}
+use Rattle.aldlf.specs.Outcomes.{one}
+use Rattle.aldlf.specs.declared.Table.{Table}
 use Rattle.joblog.specs.Log.{LogOutcome, readOutcome}
 use Rattle.joblog.specs.Counted.{countedOutcome, Lookup}
-use Rattle.sheet.specs.declared.SheetAnswer.{SheetAnswer}
 use Rattle.sheet.specs.Questions.{readSheet}
-use Rattle.crossing.specs.Numbers.{tableSize, tableNumbers}
+use Rattle.profile.specs.Profile.{profileOutcome, profileCheck}
+use Rattle.crossing.specs.Numbers.{tableSize, tableNumbers, tableOf}
 
 -- bits 0 to 15 are the count, 16 to 31 the number of the question that got a no (0: accepted), 32 to 47 the line, 48 to 63 what a call gives besides (each says what; else 0)
 unfoldable pub answerCode : (number line count extra : ℕ) → ℕ
@@ -33,13 +35,21 @@ outcome r slice = record { answer = r; slice = slice }
 abbrev pub ofLength : ℕ → List ℕ → Outcome → Outcome
 ofLength n lent rest = cond (eqb (length lent) n) rest (outcome (refusal 35) lent)
 
--- a sheet as read: its number and its line; the table's numbers where it was accepted
-abbrev pub readInto : List ℕ → SheetAnswer → Outcome
-readInto table a = outcome (answerCode (a .number) (a .line) 0 0) (cond (eqb (a .number) 0) (tableNumbers (a .table)) table)
+-- a table as it is given: number and line; the table's numbers where it was accepted
+abbrev pub tableInto : List ℕ → (number line : ℕ) → Table → Outcome
+tableInto lent number line t = outcome (answerCode number line 0 0) (cond (eqb number 0) (tableNumbers t) lent)
 
 -- reading a sheet into a lent table
 unfoldable pub sheetOutcome : (text table : List ℕ) → Outcome
-sheetOutcome text table = ofLength tableSize table (readInto table (readSheet text))
+sheetOutcome text table = let a = readSheet text in ofLength tableSize table (tableInto table (a .number) (a .line) (a .table))
+
+-- making the profile of a lent table in another; it is about no line
+unfoldable pub profileMade : (table out : List ℕ) → Outcome
+profileMade table out = let a = profileOutcome (tableOf table) in ofLength tableSize out (tableInto out (a .number) 0 (a .table))
+
+-- whether a lent table is in the profile: a yes counts 1
+unfoldable pub profileAsked : List ℕ → ℕ
+profileAsked table = let c = profileCheck (tableOf table) in answerCode (c .number) 0 (one (c .yes)) 0
 
 -- a log as read: its number, its line, and how many entries
 abbrev pub logged : LogOutcome → Outcome

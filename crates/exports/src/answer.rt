@@ -1,6 +1,7 @@
 // One number for an answer.
 ghost use mathlib.Core.Path.{_≡_};
 ghost use Prim.Native.Nat.{_<_};
+ghost use Rattle.aldlf.specs.Outcomes.{one};
 ghost use Rattle.exports.specs.Answers.{answerCode};
 ghost use Rattle.exports.specs.Lists.{listCode};
 
@@ -21,4 +22,11 @@ pub(crate) fn list_code(number: u8, log: usize) -> u64
     ensures { λ r. ⌜ r ≡ listCode number log ⌝ }
 {
     65536 * (number as u64) + 4294967296 * (log as u64)
+}
+
+// A yes as a count.
+pub(crate) fn one(yes: bool) -> usize
+    ensures { λ r. ⌜ (r ≡ one yes) × (r < 2) ⌝ }
+{
+    if yes { 1 } else { 0 }
 }

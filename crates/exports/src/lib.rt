@@ -7,6 +7,7 @@ use aldlf::Node;
 use aldlf::Way;
 use answer::code;
 use answer::list_code;
+use answer::one;
 use crossing::lending::lend_table;
 use crossing::pack::TABLE;
 use crossing::pack::put_table;
@@ -23,11 +24,13 @@ use judge::lent::judge_lent;
 use judge::lent::part_lent;
 use judge::lent::plain_row_lent;
 use packing::places::PLACES;
+use profile::lent::is_in_profile_lent;
+use profile::lent::to_profile_lent;
 use walk::WalkAnswer;
 use walk::lent::walk_lent;
 ghost use mathlib.Core.Path.{_≡_};
 ghost use Prim.Native.Nat.{min};
-ghost use Rattle.exports.specs.Answers.{accepted, outcome, sheetOutcome, logOutcome, countedLogOutcome, lookedUp};
+ghost use Rattle.exports.specs.Answers.{accepted, outcome, sheetOutcome, profileMade, profileAsked, logOutcome, countedLogOutcome, lookedUp};
 ghost use Rattle.joblog.specs.Counted.{stepsBetween, entryBearing};
 ghost use Rattle.exports.specs.Judging.{partEnds, judgeOutcome, plainOutcome, judgePartOutcome, isWay, wayOf};
 ghost use Rattle.exports.specs.Lists.{listEnds, judgeLogsOutcome};
@@ -54,6 +57,36 @@ pub extern "C" fn rozsvelen_read_sheet(text: &[u8], table: &mut [u16]) -> u64
     let t = s.table;
     put_table(t, table);
     code(s.number, s.line as usize, 0, 0)
+}
+
+// Puts the table in the plain profile that a table gives into another. A refusal alters nothing.
+#[no_mangle]
+pub extern "C" fn rozsvelen_profile(table: &[u16], out: &mut [u16]) -> u64
+    ensures { λ r. ⌜ outcome r (now (out .exit)) ≡ profileMade (now (table .entry)) (now (out .entry)) ⌝ }
+{
+    if out.len() != TABLE {
+        return code(LENGTH, 0, 0, 0);
+    }
+    let mut numbers = [0u32; PLACES];
+    lend_table(table, &mut numbers);
+    let made = to_profile_lent(&numbers);
+    if made.number != 0 {
+        return code(made.number, 0, 0, 0);
+    }
+    let t = made.table;
+    put_table(t, out);
+    code(made.number, 0, 0, 0)
+}
+
+// Whether a table is in the plain profile: a yes counts 1.
+#[no_mangle]
+pub extern "C" fn rozsvelen_in_profile(table: &[u16]) -> u64
+    ensures { λ r. ⌜ r ≡ profileAsked (now (table .entry)) ⌝ }
+{
+    let mut numbers = [0u32; PLACES];
+    lend_table(table, &mut numbers);
+    let asked = is_in_profile_lent(&numbers);
+    code(asked.number, 0, one(asked.yes), 0)
 }
 
 // Reads a log's text into words and counts its entries. A refusal alters nothing.
