@@ -6,3 +6,4 @@ pub mod Known
 pub mod Agree
 pub mod Laws
 pub mod Request
+pub mod Worked
