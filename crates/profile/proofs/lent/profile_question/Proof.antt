@@ -1,10 +1,9 @@
 -- `profile_question` meets its contract, question by question. Assumes nothing.
-use mathlib.Core.Path.{ap, _∙_}
+use mathlib.Core.Path.{sym, ap, _∙_}
 use borrow.Author.Needs.{needs}
 use borrow.Author.Tests.{le-leb, lt-leb}
 use lib.Dec.{leb}
-use Prim.Native.Nat.{ℕ, _+_, _*_}
-use mathlib.Core.Path.{_≡_, sym, subst}
+use Prim.Native.Nat.{_+_, _*_}
 use Rattle.aldlf.specs.Constants.{nodeLimit}
 use Rattle.aldlf.specs.declared.Used.{Used}
 use Rattle.sheet.proofs.Asked.{yes-is, no-is}

@@ -1,6 +1,6 @@
 -- `to_profile_lent` meets its contract: the questions, then the table or none. Assumes nothing.
 use Prim.Native.Nat.{ℕ}
-use mathlib.Core.Path.{_≡_, sym, ap, _∙_}
+use mathlib.Core.Path.{sym, ap, _∙_}
 use denote.Ref.{now}
 use Rattle.aldlf.specs.declared.Table.{Table}
 use Rattle.packing.specs.Packed.{Packed}
