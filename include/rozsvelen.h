@@ -4,7 +4,7 @@
  * got a no (0: accepted); the line that the question is about (from 1; 0 for questions not about a line); and what a function gives besides
  * (each says what; else 0). Where a list of logs is judged, the upper 32 bits are the log that the question is about.
  * A refusal alters nothing that was lent. The questions about texts and their numbers stand in docs/SHEETS.md and docs/LOGS.md, those about
- * judging and walks in document 01; three are the boundary's own:
+ * judging and walks in document 01, 42 at rozsvelen_profile; three are the boundary's own:
  *   35  a table or row to be written has its fixed length. Asked first.
  *   43  a way is ROZSVELEN_AHEAD or ROZSVELEN_BACK. Asked after 35.
  *   44  a page fits in the lent bytes.
@@ -44,6 +44,14 @@ static inline uint32_t rozsvelen_log(uint64_t answer) { return (uint32_t)(answer
 
 /* Reads a rule sheet's text into a table of ROZSVELEN_TABLE numbers. Questions 35, then 1 to 11. Stack: 16 KB. */
 uint64_t rozsvelen_read_sheet(const uint8_t *text, size_t text_len, uint16_t *table, size_t table_len);
+
+/* Puts the plain profile of a table, where N stands directly on a fact, into a table of ROZSVELEN_TABLE numbers: node k gives node 2k with the
+ * same meaning and node 2k+1 with its opposite, and a last node repeats the rule's. Questions 35, 31, 42 (it has no more nodes than a sheet
+ * may have, 64). Stack: 8 KB. */
+uint64_t rozsvelen_profile(const uint16_t *table, size_t table_len, uint16_t *out, size_t out_len);
+
+/* Counts 1 where a table is in the plain profile, each N line of it naming a fact's line; else 0. Question 31. Stack: 8 KB. */
+uint64_t rozsvelen_in_profile(const uint16_t *table, size_t table_len);
 
 /* Reads a job log's text into words, bit f for fact f, and counts the entries. The words take the first places, the rest keep their content.
  * Questions 21 to 27. Stack: 1 KB. */

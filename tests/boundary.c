@@ -1,5 +1,5 @@
 /* What only a caller in C can do or see: the parts of an answer, empty slices at NULL, and the stack that each call takes; and numbers with
- * zeros before them, logs with counters, steps and entries of counters, through the C calls. Ends in 'N passed, M failed'. */
+ * zeros before them, profiles, logs with counters, steps and entries of counters, through the C calls. Ends in 'N passed, M failed'. */
 #include "rozsvelen.h"
 
 #include <pthread.h>
@@ -21,7 +21,7 @@ static void check(const char *name, int holds) {
 /* The sheet of the longest walk, with a line of every letter: ahead to the last entry in one state, back to the first in the next. */
 enum { LAST = ROZSVELEN_ENTRIES - 1, SHOWN = 9 };
 static char rules[4096], steps[4096], counted[8192];
-static uint16_t table[ROZSVELEN_TABLE], only_ahead[ROZSVELEN_TABLE], only_back[ROZSVELEN_TABLE];
+static uint16_t table[ROZSVELEN_TABLE], only_ahead[ROZSVELEN_TABLE], only_back[ROZSVELEN_TABLE], made[ROZSVELEN_TABLE];
 static uint16_t row[ROZSVELEN_ROW], edges[ROZSVELEN_WALK], held[2];
 static uint32_t words[ROZSVELEN_ENTRIES], words_again[ROZSVELEN_ENTRIES];
 static uint64_t verdicts[ROZSVELEN_ENTRIES];
@@ -53,6 +53,8 @@ static void write_counted(void) {
 static const uint8_t *text(const char *s) { return (const uint8_t *)s; }
 
 static void read_sheet(void) { answer = rozsvelen_read_sheet(text(rules), strlen(rules), table, ROZSVELEN_TABLE); }
+static void profile(void) { answer = rozsvelen_profile(table, ROZSVELEN_TABLE, made, ROZSVELEN_TABLE); }
+static void in_profile(void) { answer = rozsvelen_in_profile(made, ROZSVELEN_TABLE); }
 static void read_log(void) { answer = rozsvelen_read_log(text(steps), strlen(steps), words, ROZSVELEN_ENTRIES); }
 static void read_counted(void) { answer = rozsvelen_read_counted(text(counted), strlen(counted), words_again, ROZSVELEN_ENTRIES); }
 static void steps_between(void) { answer = rozsvelen_steps_between(FIRST, FIRST - 1); }
@@ -130,6 +132,9 @@ static void empty_slices(void) {
     const uint64_t first = (uint64_t)1 << 32;
     check("read_sheet of no text", rozsvelen_read_sheet(NULL, 0, only_ahead, T) == refused(2));
     check("read_sheet into no table", rozsvelen_read_sheet(sheet, 2, NULL, 0) == refused(35));
+    check("profile with no table", rozsvelen_profile(NULL, 0, made, T) == refused(31));
+    check("profile into no table", rozsvelen_profile(table, T, NULL, 0) == refused(35));
+    check("in_profile with no table", rozsvelen_in_profile(NULL, 0) == refused(31));
     check("read_log of no text", rozsvelen_read_log(NULL, 0, words, N) == refused(22));
     check("read_log into no words", rozsvelen_read_log(log, 2, NULL, 0) == refused(27));
     check("read_counted of no text", rozsvelen_read_counted(NULL, 0, words, N) == refused(22));
@@ -171,6 +176,79 @@ static void padded_numbers(void) {
     check("read_log of padded facts, the words", log[0] == (1 << 7 | 1 << 8) && log[1] == 1 && log[2] == 9);
     check("read_log of 7,07", rozsvelen_read_log(text("7,07\n"), 5, log, 3) == refused(26) + first);
     check("read_log of 0007", rozsvelen_read_log(text("0007\n"), 5, log, 3) == refused(24) + first);
+}
+
+static void table_of(const char *sheet, uint16_t *into) {
+    check(sheet, rozsvelen_read_sheet(text(sheet), strlen(sheet), into, ROZSVELEN_TABLE) == 0);
+}
+
+static void check_of(const char *what, const char *sheet, int holds) {
+    char name[64];
+    snprintf(name, sizeof name, "%s of %s", what, sheet);
+    check(name, holds);
+}
+
+/* Profiles, and verdicts by them, worked by hand: of W and X of document 01, of and/or, and of an N on a D whose edge tests an N line. */
+static void profiles_made(void) {
+    enum { T = ROZSVELEN_TABLE };
+    static const struct { const char *name, *sheet, *profile; uint32_t log[3]; uint64_t verdicts[3], held; } cases[] = {
+        { "W", "T\nP,1\nM,1,0\nG,0\nE,0,1,0,0\nD,0,1\n", "T\nF\nP,1\nN,2\nM,1,0\nG,0\nE,0,1,0,0\nD,0,2\nB,0,3\nD,0,2\n",
+          { 1, 2, 4 }, { 89, 85, 41 }, 2 },
+        { "X", "T\nF\nM,2,0\nG,1\nE,0,2,0,1\nB,0,1\n", "T\nF\nF\nT\nM,2,0\nG,1\nE,0,2,0,1\nB,0,2\nD,0,3\nB,0,2\n",
+          { 0, 0, 0 }, { 89, 41, 41 }, 1 },
+        { "an A on an O", "P,0\nP,1\nO,0,1\nA,2,0\n", "P,0\nN,0\nP,1\nN,2\nO,0,2\nA,1,3\nA,4,0\nO,5,1\nA,4,0\n",
+          { 1, 2, 0 }, { 345, 150, 170 }, 1 },
+        { "an N on a D", "P,0\nN,0\nM,1,0\nG,0\nE,0,1,1,0\nD,0,1\nN,2\n",
+          "P,0\nN,0\nN,0\nP,0\nM,1,0\nG,0\nE,0,1,2,0\nD,0,2\nB,0,3\nB,0,3\nD,0,2\nB,0,3\n", { 1, 0, 1 }, { 361, 150, 361 }, 2 },
+    };
+    for (size_t i = 0; i < sizeof cases / sizeof *cases; i++) {
+        uint16_t old[T], wanted[T], out[T];
+        uint64_t judged[3];
+        table_of(cases[i].sheet, old);
+        table_of(cases[i].profile, wanted);
+        check_of("profile", cases[i].name, rozsvelen_profile(old, T, out, T) == 0);
+        check_of("the profile's table", cases[i].name, memcmp(out, wanted, sizeof out) == 0);
+        check_of("the count held by the profile", cases[i].name, rozsvelen_judge(out, T, cases[i].log, 3, judged, 3) == cases[i].held);
+        check_of("the words by the profile", cases[i].name, memcmp(judged, cases[i].verdicts, sizeof judged) == 0);
+    }
+}
+
+/* By which question a profile is refused, and that nothing is altered beside it; 31 nodes are taken. */
+static void profiles_refused(void) {
+    enum { T = ROZSVELEN_TABLE };
+    static const uint16_t zeros[T];
+    uint16_t most[T], many[T], out[T + 1], before[T + 1];
+    char sheet[2 * 32 + 1];
+    for (int k = 0; k < 32; k++) strcpy(sheet + 2 * k, "T\n");
+    table_of(sheet, many);
+    table_of(sheet + 2, most);
+    memset(before, 0x5a, sizeof before);
+    memcpy(out, before, sizeof out);
+    check("profile of the table of zeros", rozsvelen_profile(zeros, T, out, T) == refused(31));
+    check("profile of 32 nodes", rozsvelen_profile(many, T, out, T) == refused(42));
+    check("profile into a number less", rozsvelen_profile(most, T, out, T - 1) == refused(35));
+    check("profile into a number more", rozsvelen_profile(most, T, out, T + 1) == refused(35));
+    check("profile of zeros into a number less", rozsvelen_profile(zeros, T, out, T - 1) == refused(35));
+    check("profile, refused, the table lent", memcmp(out, before, sizeof out) == 0);
+    check("profile of 31 nodes", rozsvelen_profile(most, T, out, T) == 0 && out[T - 3] == 63 && out[T] == before[T]);
+    check("in_profile of the table of zeros", rozsvelen_in_profile(zeros, T) == refused(31));
+}
+
+/* Which sheets are in the profile; the profile of the last is. */
+static void profiles_told(void) {
+    enum { T = ROZSVELEN_TABLE };
+    static const struct { const char *name, *sheet; uint64_t yes; } cases[] = {
+        { "W", "T\nP,1\nM,1,0\nG,0\nE,0,1,0,0\nD,0,1\n", 1 },
+        { "an N on T", "T\nN,0\n", 0 },
+        { "an N on F", "F\nN,0\n", 0 },
+        { "an N on an N", "P,0\nN,0\nN,1\n", 0 },
+    };
+    uint16_t old[T], out[T];
+    for (size_t i = 0; i < sizeof cases / sizeof *cases; i++) {
+        table_of(cases[i].sheet, old);
+        check_of("in_profile", cases[i].name, rozsvelen_in_profile(old, T) == cases[i].yes);
+    }
+    check("in_profile of a profile", rozsvelen_profile(old, T, out, T) == 0 && rozsvelen_in_profile(out, T) == 1);
 }
 
 static int counted_is(const char *log, uint32_t *into, uint64_t wanted) {
@@ -229,6 +307,8 @@ int main(void) {
     write_texts();
     write_counted();
     takes("read_sheet", read_sheet, 0, 16);
+    takes("profile", profile, 0, 8);
+    takes("in_profile", in_profile, 1, 8);
     takes("read_log", read_log, ROZSVELEN_ENTRIES, 1);
     takes("read_counted", read_counted, ROZSVELEN_ENTRIES + ((uint64_t)FIRST << 48), 1);
     check("read_counted, the words of the log without counters", memcmp(words, words_again, sizeof words) == 0);
@@ -248,6 +328,9 @@ int main(void) {
     answer_parts();
     empty_slices();
     padded_numbers();
+    profiles_made();
+    profiles_refused();
+    profiles_told();
     counters_read();
     counters_refused();
     steps_and_entries();

@@ -21,6 +21,17 @@ pub fn read_sheet(text: &[u8], table: &mut [u16; TABLE]) -> Result<usize, Refuse
     answer(unsafe { rozsvelen_read_sheet(text.as_ptr(), text.len(), table.as_mut_ptr(), table.len()) })
 }
 
+pub fn profile(table: &[u16; TABLE]) -> Result<[u16; TABLE], Refused> {
+    let mut made = [0; TABLE];
+    answer(unsafe { rozsvelen_profile(table.as_ptr(), table.len(), made.as_mut_ptr(), made.len()) })?;
+    Ok(made)
+}
+
+pub fn is_in_profile(table: &[u16; TABLE]) -> Result<bool, Refused> {
+    let count = answer(unsafe { rozsvelen_in_profile(table.as_ptr(), table.len()) })?;
+    Ok(count == 1)
+}
+
 pub fn read_log(text: &[u8], words: &mut [u32]) -> Result<usize, Refused> {
     answer(unsafe { rozsvelen_read_log(text.as_ptr(), text.len(), words.as_mut_ptr(), words.len()) })
 }

@@ -109,6 +109,36 @@ impl Sheet {
     pub fn numbers(&self) -> &[u16; TABLE] {
         &self.table
     }
+
+    /// The sheet in the plain profile, where `N` stands directly on a fact. Node k gives two nodes, 2k with the same meaning and 2k + 1 with its
+    /// opposite, and a last node repeats the rule's; the automata keep their places. 42 where these are more than 64 nodes.
+    ///
+    /// ```
+    /// use rozsvelen::{Refused, Sheet};
+    /// // the rule, node 3: from here on no entry has fact 1
+    /// let sheet = Sheet::read(b"T\nP,1\nM,1,0\nG,0\nE,0,1,0,0\nD,0,1\nN,2\n").unwrap();
+    /// let plain = Sheet::read(b"T\nF\nP,1\nN,2\nM,1,0\nG,0\nE,0,1,0,0\nD,0,2\nB,0,3\nB,0,3\nD,0,2\nB,0,3\n").unwrap();
+    /// assert_eq!(sheet.profile(), Ok(plain));
+    /// let large = Sheet::read(&b"T\n".repeat(32)).unwrap();
+    /// assert_eq!(large.profile(), Err(Refused { number: 42, line: 0 }));
+    /// ```
+    pub fn profile(&self) -> Result<Sheet, Refused> {
+        let table = boundary::profile(&self.table)?;
+        Ok(Sheet { table })
+    }
+
+    /// Whether the sheet is in the plain profile: each of its `N` lines, used or not, names a fact's line.
+    ///
+    /// ```
+    /// use rozsvelen::Sheet;
+    /// let in_profile = |text: &[u8]| Sheet::read(text).unwrap().is_in_profile();
+    /// assert_eq!(in_profile(b"P,0\nN,0\n"), Ok(true));
+    /// assert_eq!(in_profile(b"P,0\nN,0\nN,1\n"), Ok(false));
+    /// assert_eq!(in_profile(b"F\nN,0\nT\n"), Ok(false));
+    /// ```
+    pub fn is_in_profile(&self) -> Result<bool, Refused> {
+        boundary::is_in_profile(&self.table)
+    }
 }
 
 /// A job log that was read: a word for each entry, bit f for fact f.

@@ -15,12 +15,24 @@ fn refusal(number: u64, line: u64) -> u64 {
     65536 * number + (line << 32)
 }
 
+fn table_of(text: &[u8]) -> [u16; TABLE] {
+    *Sheet::read(text).unwrap().numbers()
+}
+
 fn table() -> [u16; TABLE] {
-    *Sheet::read(W).unwrap().numbers()
+    table_of(W)
 }
 
 fn read_sheet(text: &[u8], table: &mut [u16]) -> u64 {
     unsafe { rozsvelen_read_sheet(text.as_ptr(), text.len(), table.as_mut_ptr(), table.len()) }
+}
+
+fn profile(table: &[u16], out: &mut [u16]) -> u64 {
+    unsafe { rozsvelen_profile(table.as_ptr(), table.len(), out.as_mut_ptr(), out.len()) }
+}
+
+fn in_profile(table: &[u16]) -> u64 {
+    unsafe { rozsvelen_in_profile(table.as_ptr(), table.len()) }
 }
 
 fn read_log(text: &[u8], words: &mut [u32]) -> u64 {
@@ -113,6 +125,74 @@ fn zeros_before_the_numbers_of_a_sheet_change_nothing() {
     assert_eq!(read_sheet(b"T\nP,0007\n", &mut padded), refusal(4, 2), "four digits are no number");
     assert_eq!(read_sheet(b"T\nP,032\n", &mut padded), refusal(7, 2), "a padded number is held to its range");
     assert_eq!(padded, table());
+}
+
+/// A sheet, its profile worked by hand, a log of three entries, and its verdicts and held count by that profile.
+type Profiled<'a> = (&'a [u8], &'a [u8], [u32; 3], [u64; 3], u64);
+
+#[test]
+fn profiles_are_as_worked_by_hand() {
+    let worked: [Profiled; 4] = [
+        (W, b"T\nF\nP,1\nN,2\nM,1,0\nG,0\nE,0,1,0,0\nD,0,2\nB,0,3\nD,0,2\n", [1, 2, 4], [89, 85, 41], 2),
+        // X of document 01
+        (b"T\nF\nM,2,0\nG,1\nE,0,2,0,1\nB,0,1\n", b"T\nF\nF\nT\nM,2,0\nG,1\nE,0,2,0,1\nB,0,2\nD,0,3\nB,0,2\n", [0; 3], [89, 41, 41], 1),
+        (b"P,0\nP,1\nO,0,1\nA,2,0\n", b"P,0\nN,0\nP,1\nN,2\nO,0,2\nA,1,3\nA,4,0\nO,5,1\nA,4,0\n", [1, 2, 0], [345, 150, 170], 1),
+        // the rule is an N on a D, and the edge tests an N line
+        (
+            b"P,0\nN,0\nM,1,0\nG,0\nE,0,1,1,0\nD,0,1\nN,2\n",
+            b"P,0\nN,0\nN,0\nP,0\nM,1,0\nG,0\nE,0,1,2,0\nD,0,2\nB,0,3\nB,0,3\nD,0,2\nB,0,3\n",
+            [1, 0, 1],
+            [361, 150, 361],
+            2,
+        ),
+    ];
+    for (sheet, wanted, log, words, held) in worked {
+        let (mut made, mut verdicts) = ([7; TABLE], [9; 3]);
+        assert_eq!(profile(&table_of(sheet), &mut made), 0, "{:?}", String::from_utf8_lossy(sheet));
+        assert_eq!(made, table_of(wanted), "{:?}", String::from_utf8_lossy(sheet));
+        assert_eq!((judge(&made, &log, &mut verdicts), verdicts), (held, words), "{:?}", String::from_utf8_lossy(sheet));
+    }
+}
+
+#[test]
+fn a_profile_has_at_most_64_nodes() {
+    let mut made = [7; TABLE];
+    assert_eq!(profile(&table_of(&b"T\n".repeat(32)), &mut made), refusal(42, 0));
+    assert_eq!(profile(&table_of(&b"T\n".repeat(64)), &mut made), refusal(42, 0));
+    assert_eq!(made, [7; TABLE]);
+    assert_eq!(profile(&table_of(&b"T\n".repeat(31)), &mut made), 0);
+    assert_eq!(made, table_of(&[&b"T\nF\n".repeat(31)[..], b"T\n"].concat()));
+    assert_eq!(made[TABLE - 3], 63);
+}
+
+#[test]
+fn a_profile_is_asked_35_then_31_then_42() {
+    let many = table_of(&b"T\n".repeat(32));
+    for length in [0, TABLE - 1, TABLE + 1] {
+        let mut out = vec![7; length];
+        for numbers in [table(), [0; TABLE], many] {
+            assert_eq!(profile(&numbers, &mut out), refusal(35, 0));
+        }
+        assert_eq!(out, vec![7; length]);
+    }
+    let mut changed = many;
+    changed[0] = 0;
+    let mut out = [7; TABLE];
+    assert_eq!(profile(&[0; TABLE], &mut out), refusal(31, 0));
+    assert_eq!(profile(&changed, &mut out), refusal(31, 0), "31 comes before 42");
+    assert_eq!(out, [7; TABLE]);
+}
+
+#[test]
+fn in_the_profile_every_n_stands_on_a_fact() {
+    let twice = table_of(b"P,0\nN,0\nN,1\n");
+    let mut made = [7; TABLE];
+    assert_eq!(profile(&twice, &mut made), 0);
+    for (numbers, answer) in [(table(), 1), (table_of(b"T\nN,0\n"), 0), (table_of(b"F\nN,0\n"), 0), (twice, 0), (made, 1)] {
+        assert_eq!(in_profile(&numbers), answer, "nodes {:?}", &numbers[..21]);
+    }
+    assert_eq!(in_profile(&table_of(b"T\nN,0\nP,0\n")), 0, "an N line that the rule does not use");
+    assert_eq!(in_profile(&[0; TABLE]), refusal(31, 0));
 }
 
 #[test]
@@ -253,11 +333,14 @@ fn numbers_that_are_no_tables_are_31() {
         let mut verdicts = [9; 2];
         let mut row = [7; ROW];
         let mut edges = [5; 3];
+        let mut made = [3; TABLE];
+        assert_eq!(profile(numbers, &mut made), refusal(31, 0));
+        assert_eq!(in_profile(numbers), refusal(31, 0));
         assert_eq!(judge(numbers, &[2], &mut verdicts), refusal(31, 0));
         assert_eq!(plain_row(numbers, &mut row), refusal(31, 0));
         assert_eq!(judge_part(numbers, 1, &mut row, &[2], &mut verdicts), refusal(31, 0));
         assert_eq!(walk(numbers, &[2], 2, 0, &mut edges), refusal(31, 0));
-        assert_eq!((row, verdicts, edges), ([7; ROW], [9; 2], [5; 3]));
+        assert_eq!((row, verdicts, edges, made), ([7; ROW], [9; 2], [5; 3], [3; TABLE]));
     }
 }
 

@@ -44,17 +44,32 @@ struct Writer<'a> {
     edges: usize,
 }
 
+/// How many nodes a sheet has; how many automata it may have, and how many states each of them.
+pub struct Size {
+    pub nodes: usize,
+    pub automata: usize,
+    pub states: usize,
+}
+
 /// A sheet that reads, of random size: mostly small, now and then near the limits.
 pub fn sheet(random: &mut Random, looks: Looks) -> String {
-    let large = random.one_in(40);
-    let (most_nodes, most_automata) = if large { (64, 16) } else { (4 + random.below(8), 1 + random.below(3)) };
+    let size = if random.one_in(40) {
+        Size { nodes: 64, automata: 16, states: 16 }
+    } else {
+        Size { nodes: 4 + random.below(8), automata: 1 + random.below(3), states: 4 }
+    };
+    sheet_of(random, looks, size)
+}
+
+/// A sheet that reads, of 3 nodes or more.
+pub fn sheet_of(random: &mut Random, looks: Looks, size: Size) -> String {
     let mut w = Writer { random, text: String::new(), nodes: 0, plain: vec![], automata: 0, edges: 0 };
     for _ in 0..2 {
         w.leaf();
     }
-    while w.nodes < most_nodes - 1 {
-        if w.automata < most_automata && w.edges < 220 && w.random.one_in(3) {
-            w.automaton(looks, large);
+    while w.nodes < size.nodes - 1 {
+        if w.automata < size.automata && w.edges < 220 && w.random.one_in(3) {
+            w.automaton(looks, size.states);
         } else {
             w.node();
         }
@@ -63,8 +78,8 @@ pub fn sheet(random: &mut Random, looks: Looks) -> String {
     w.text
 }
 
-/// A sheet at every limit: 64 nodes, 16 automata of 16 states, 256 edges.
-pub fn largest_sheet(random: &mut Random) -> String {
+/// A sheet of so many nodes and at every other limit: 16 automata of 16 states, 256 edges.
+pub fn largest_sheet(random: &mut Random, nodes: usize) -> String {
     let mut text = "P,0\nP,1\nT\n".to_string();
     for _ in 0..16 {
         text += &format!("M,16,{}\nG,{}\n", random.below(16), random.below(16));
@@ -72,7 +87,7 @@ pub fn largest_sheet(random: &mut Random) -> String {
             text += &format!("E,{s},{},{},{}\n", random.below(3), random.below(3), random.below(16));
         }
     }
-    for k in 3..64 {
+    for k in 3..nodes {
         text += &format!("{},{},{}\n", random.pick(&['D', 'B']), random.below(16), random.below(k));
     }
     text
@@ -111,8 +126,8 @@ impl Writer<'_> {
         self.nodes += 1;
     }
 
-    fn automaton(&mut self, looks: Looks, large: bool) {
-        let states = 1 + self.random.below(if large { 16 } else { 4 });
+    fn automaton(&mut self, looks: Looks, most_states: usize) {
+        let states = 1 + self.random.below(most_states);
         self.text += &format!("M,{states},{}\n", self.random.below(states));
         let mut touched = vec![false; states];
         let mut extra = 1 + self.random.below(4);

@@ -16,10 +16,11 @@ use compare::judging::{compare_judging, compare_plain_row};
 use compare::lists::{compare_logs, Logs};
 use compare::pages::compare_page;
 use compare::parts::{compare_part, compare_run, Part};
+use compare::profile::compare_profile;
 use compare::texts::{compare_counted, compare_log, compare_sheet};
 use compare::walks::compare_walk;
 use compare::Table;
-use generate::{counted_text, first_counter, largest_sheet, log, log_text, sheet, Looks, Random};
+use generate::{counted_text, first_counter, largest_sheet, log, log_text, sheet, sheet_of, Looks, Random, Size};
 use generate::{perhaps_damaged, perhaps_damaged_table, perhaps_padded};
 use kinds::Kinds;
 use rozsvelen::PAGE;
@@ -162,7 +163,7 @@ fn node_to_show(random: &mut Random, table: &Table) -> usize {
 
 /// Sheets and logs as large as they may be.
 fn largest_case(random: &mut Random, kinds: &mut Kinds) {
-    let table = Table::of(&largest_sheet(random));
+    let table = Table::of(&largest_sheet(random, 64));
     let accepted = judge_and_show(random, kinds, &table, 8);
     kinds.saw_if(accepted, "judge: sheet at every limit");
     let table = Table::of(&sheet(random, Looks::Both));
@@ -284,18 +285,29 @@ fn change_lengths(random: &mut Random, lengths: &mut Vec<u16>) {
     }
 }
 
+/// The profile of a sheet, or of a table that may have been changed, and the profile of that. Sizes from which both, one or none can be made.
+fn profile_case(random: &mut Random, kinds: &mut Kinds) {
+    let nodes = if random.one_in(3) { 16 + random.below(20) } else { 3 + random.below(13) };
+    let size = Size { nodes, automata: random.below(4), states: 4 };
+    let read = *Table::of(&sheet_of(random, Looks::Both, size)).ours.numbers();
+    let numbers = if random.one_in(4) { perhaps_damaged_table(random, read) } else { read };
+    let table = Table::from_numbers(numbers);
+    let entries = 1 + random.below(8);
+    let words = log(random, entries);
+    let made = compare_profile(kinds, &table, &words);
+    kinds.saw_if(made.is_some() && numbers != read, "profile: of a changed table that some sheet gives");
+    let again = made.and_then(|made| compare_profile(kinds, &made, &words));
+    kinds.saw_if(again.is_some(), "profile: of a profile");
+}
+
 fn main() {
     let from = |name: &str, default: u64| std::env::var(name).ok().and_then(|v| v.parse().ok()).unwrap_or(default);
     let (cases, seed) = (from("ROZSVELEN_CASES", 200_000), from("ROZSVELEN_SEED", 1));
     let mut random = Random(seed);
-    // lists of logs, and counters, have numbers of their own, so that the other cases are the same with them and without them
-    let [mut random_logs, mut random_counters] = [!seed, seed ^ 1 << 63].map(Random);
+    // lists of logs, counters, and profiles have numbers of their own, so that the other cases are the same with them and without them
+    let [mut random_logs, mut random_counters, mut random_profiles] = [!seed, seed ^ 1 << 63, !seed ^ 1 << 63].map(Random);
     let mut kinds = Kinds::default();
-    limits::texts(&mut kinds);
-    limits::counted_logs(&mut kinds);
-    limits::counters(&mut kinds);
-    limits::longest_walk(&mut kinds);
-    limits::most_logs(&mut kinds);
+    limits::all(&mut kinds);
     for case in 0..cases {
         if case % 1000 == 0 {
             largest_case(&mut random, &mut kinds);
@@ -314,6 +326,7 @@ fn main() {
         one(&mut random, &mut kinds);
         match case % 9 {
             1 => counted_case(&mut random_counters, &mut kinds),
+            4 => profile_case(&mut random_profiles, &mut kinds),
             8 => logs_case(&mut random_logs, &mut kinds),
             _ => (),
         }

@@ -3,8 +3,10 @@ use std::collections::BTreeMap;
 use std::fmt;
 
 /// Every call and the numbers by which it refuses; for the page, the numbers that stand on it.
-const REFUSALS: [(&str, &[u8]); 11] = [
+const REFUSALS: [(&str, &[u8]); 13] = [
     ("read_sheet", &[1, 2, 3, 4, 5, 6, 7, 8, 9, 10, 11]),
+    ("profile", &[31, 42]),
+    ("in_profile", &[31]),
     ("read_log", &[21, 22, 23, 24, 25, 26, 27]),
     ("read_counted", &[21, 22, 23, 24, 28, 29, 25, 26, 27]),
     ("entry_bearing", &[32, 30]),
@@ -17,12 +19,21 @@ const REFUSALS: [(&str, &[u8]); 11] = [
     ("page_in", &[44]),
 ];
 
-const OTHERS: [&str; 83] = [
+const OTHERS: [&str; 92] = [
     "read_sheet: read",
     "read_sheet: cut short within a line",
     "read_sheet: a byte above 127",
     "read_sheet: read with a padded number",
     "read_sheet: 4 of a padded number of four digits",
+    "profile: made",
+    "profile: of a sheet with an N on an N",
+    "profile: of a sheet whose rule is an N on a D or B",
+    "profile: an edge that tests an N line",
+    "profile: of 31 nodes",
+    "profile: of a profile",
+    "profile: of a changed table that some sheet gives",
+    "in_profile: yes",
+    "in_profile: no",
     "read_log: read",
     "read_log: cut short within a line",
     "read_log: a byte above 127",

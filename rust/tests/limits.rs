@@ -1,19 +1,29 @@
-//! Sheets, logs, counters, lists of logs, pages and walks at the limits.
+//! Sheets, profiles, logs, counters, lists of logs, pages and walks at the limits.
 use crate::compare::counters::{compare_entry, compare_steps};
 use crate::compare::judging::compare_judging;
 use crate::compare::lists::{compare_logs, Logs};
 use crate::compare::pages::compare_page;
+use crate::compare::profile::compare_profile;
 use crate::compare::texts::{compare_counted, compare_log, compare_sheet};
 use crate::compare::walks::compare_walk;
 use crate::compare::Table;
-use crate::generate::log_text;
+use crate::generate::{largest_sheet, log, log_text, Random};
 use crate::kinds::Kinds;
 use rozsvelen::PAGE;
 
 /// An ahead edge that tests a D node.
 const MODAL_STEP: &str = "T\nM,1,0\nE,0,0,0,0\nD,0,0\nM,1,0\nE,0,1,1,0\nT\n";
 
-pub fn texts(kinds: &mut Kinds) {
+pub fn all(kinds: &mut Kinds) {
+    texts(kinds);
+    profiles(kinds);
+    counted_logs(kinds);
+    counters(kinds);
+    longest_walk(kinds);
+    most_logs(kinds);
+}
+
+fn texts(kinds: &mut Kinds) {
     for text in counted_texts() {
         compare_sheet(kinds, text.as_bytes());
         compare_page(kinds, text.as_bytes(), b"-\n", 12);
@@ -36,8 +46,24 @@ pub fn texts(kinds: &mut Kinds) {
     }
 }
 
+/// Profiles of sheets at every limit but that of nodes, of a fact under as many N lines as there may be, and of profiles until one has too many
+/// nodes: 1, 3, 7, 15, 31, 63.
+fn profiles(kinds: &mut Kinds) {
+    for nodes in [30, 31, 32, 64] {
+        let mut random = Random(nodes as u64);
+        let words = log(&mut random, 8);
+        compare_profile(kinds, &Table::of(&largest_sheet(&mut random, nodes)), &words);
+        let under: String = (0..nodes - 1).map(|k| format!("N,{k}\n")).collect();
+        compare_profile(kinds, &Table::of(&format!("P,31\n{under}")), &[0, 1 << 31]);
+    }
+    let mut last = Table::of("P,31\n");
+    while let Some(made) = compare_profile(kinds, &last, &[0, 1 << 31]) {
+        last = made;
+    }
+}
+
 /// Logs with counters of as many lines and bytes as there may be, and one more, round the turn. A 513th line is 23 whatever is on it.
-pub fn counted_logs(kinds: &mut Kinds) {
+fn counted_logs(kinds: &mut Kinds) {
     let lines = |n: usize, facts: &str| (65_300..65_300 + n).map(|c| format!("{:05},{facts}\n", c % 65_536)).collect::<String>();
     for n in [511, 512, 513] {
         compare_counted(kinds, lines(n, "-").as_bytes(), 600);
@@ -55,7 +81,7 @@ pub fn counted_logs(kinds: &mut Kinds) {
 }
 
 /// Counters beside the turn and half way round, and the entries that bear the first and the last counter of a log and the ones beside them.
-pub fn counters(kinds: &mut Kinds) {
+fn counters(kinds: &mut Kinds) {
     let edges = [0, 1, 2, 32_767, 32_768, 65_534, 65_535];
     for a in edges {
         edges.iter().for_each(|b| compare_steps(kinds, a, *b));
@@ -89,7 +115,7 @@ fn compare_long(kinds: &mut Kinds, text: &[u8]) {
 }
 
 /// A walk through every state at every entry: ahead to the last entry in one state, back to the first in the next. Edges of high numbers.
-pub fn longest_walk(kinds: &mut Kinds) {
+fn longest_walk(kinds: &mut Kinds) {
     let mut text = "T\nP,4\nP,31\nM,1,0\n".to_string() + &"E,0,0,0,0\n".repeat(225) + "M,16,0\nG,15\n";
     for s in 0..16 {
         text += &format!("E,{s},{},0,{s}\n", 1 + s % 2);
@@ -113,7 +139,7 @@ pub fn longest_walk(kinds: &mut Kinds) {
 }
 
 /// As many logs as may be judged in one call, and one more.
-pub fn most_logs(kinds: &mut Kinds) {
+fn most_logs(kinds: &mut Kinds) {
     let table = Table::of("T\nP,1\nM,1,0\nG,0\nE,0,1,0,0\nD,0,1\n");
     for logs in [65_535, 65_536] {
         let (words, lengths) = ((0..logs as u32).collect::<Vec<_>>(), vec![1; logs]);

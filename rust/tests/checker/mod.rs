@@ -1,8 +1,10 @@
 //! A second checker, written from documents 01 and 02 alone and by other means than the product's: texts are split as strings, verdicts come from
-//! sets of configurations that are closed by repetition from each start, and walks are enumerated by their length.
+//! sets of configurations that are closed by repetition from each start, walks are enumerated by their length, and each line of a profile comes by
+//! recursion from the old lines.
 pub mod logs;
 pub mod meaning;
 pub mod pages;
+pub mod profile;
 pub mod sheets;
 
 /// A refusal: number and line.

@@ -4,6 +4,7 @@ pub mod judging;
 pub mod lists;
 pub mod pages;
 pub mod parts;
+pub mod profile;
 pub mod texts;
 pub mod walks;
 
