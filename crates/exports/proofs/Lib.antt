@@ -7,3 +7,4 @@ pub mod Walks
 pub mod Pages
 pub mod Apart
 pub mod Runs
+pub mod Profiles
