@@ -3,8 +3,8 @@
  * Every function answers one number of four parts, 16 bits each, from the low bits up: a count or length; the number of the question that
  * got a no (0: accepted); the line that the question is about (from 1; 0 for questions not about a line); and what a function gives besides
  * (each says what; else 0). Where a list of logs is judged, the upper 32 bits are the log that the question is about.
- * A refusal alters nothing that was lent. The questions about texts and their numbers stand in docs/SHEETS.md and docs/LOGS.md, those about
- * judging and walks in document 01, 42 at rozsvelen_profile; three are the boundary's own:
+ * A refusal alters nothing that was lent. The questions about texts and profiles and their numbers stand in docs/SHEETS.md and docs/LOGS.md,
+ * those about judging and walks in document 01; three are the boundary's own:
  *   35  a table or row to be written has its fixed length. Asked first.
  *   43  a way is ROZSVELEN_AHEAD or ROZSVELEN_BACK. Asked after 35.
  *   44  a page fits in the lent bytes.

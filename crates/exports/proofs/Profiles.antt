@@ -3,10 +3,10 @@ use Prim.Native.Nat.{ℕ}
 use native.Mathlib.Omega.{arith}
 use mathlib.Core.Path.{_≡_, refl, sym, ap, subst, _∙_}
 use mathlib.Core.Bool.{Bool, cond}
-use mathlib.Core.Logic.{_⊎_, ⊎-elim}
+use mathlib.Core.Logic.{⊎-elim}
 use mathlib.Core.List.{List}
 use lib.ListN.{length}
-use borrow.Author.Tests.{eq-eqb, ne-eqb}
+use borrow.Author.Tests.{eq-eqb}
 use Rattle.aldlf.specs.declared.Table.{Table}
 use Rattle.sheet.proofs.Bools.{same}
 use Rattle.profile.specs.Profile.{profileOutcome}
@@ -14,7 +14,7 @@ use Rattle.profile.specs.Right.{ProfileRight}
 use Rattle.profile.proofs.Request.{profile-right, profile-sheet}
 use Rattle.crossing.specs.Numbers.{tableSize, tableNumbers, tableOf}
 use Rattle.crossing.proofs.GivenTables.{given-crosses}
-use Rattle.exports.specs.Answers.{answerCode, accepted, refusal, Outcome, outcome, ofLength, tableInto, profileMade}
+use Rattle.exports.specs.Answers.{answerCode, accepted, refusal, Outcome, tableInto, profileMade}
 use Rattle.exports.proofs.Sheets.{short-is, long-is}
 
 -- an answer of no count and about no line that is an acceptance has number 0

@@ -16,7 +16,7 @@ use Rattle.sheet.specs.Facts.{nodeAt}
 abbrev pub OnFacts : Table → Type 0
 OnFacts t = (k : ℕ) → k < t .used .nodes → nodeAt t k .kind ≡ letterN → nodeAt t (nodeAt t k .a) .kind ≡ letterP
 
--- Of the table t and the table u made from it: question 31 accepts u, u is in the profile, and at every entry of every log
+-- Of the table t and the table u made from it: question 31 accepts u, u is in the profile and has 2n + 1 nodes, and at every entry of every log
 -- new node 2k agrees with old node k, 2k+1 with its opposite, and the last new node with the rule.
 pub record ProfileRight (t u : Table) : Type 0 where
   pub given : wellFormed u ≡ true

@@ -10,14 +10,10 @@ use Rattle.aldlf.specs.declared.Table.{Table}
 use Rattle.packing.specs.Packed.{Packed}
 use Rattle.sheet.specs.Given.{wellFormed}
 
--- A table that some sheet gives, lent as numbers.
-pub record Lent (t : Table) (numbers : List ℕ) : Type 0 where
+-- A table that some sheet gives is lent as these numbers, and its profile has no more nodes than the sheet limit.
+pub record Roomy (t : Table) (numbers : List ℕ) : Type 0 where
   pub packed : Packed t numbers
   pub given : wellFormed t ≡ true
-
--- Its profile has no more nodes than the sheet limit.
-pub record Roomy (t : Table) (numbers : List ℕ) : Type 0 where
-  pub lent : Lent t numbers
   pub room : 2 * t .used .nodes + 1 ≤ nodeLimit
 
 -- Each node that the line names has room for its two new lines.

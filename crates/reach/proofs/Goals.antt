@@ -1,7 +1,6 @@
 -- The seeds, and what the marks grown from them are: what is reached of the goal.
-use Prim.Native.Nat.{ℕ, _+_, _^_, _<_}
-use native.Mathlib.Omega.{arith}
-use mathlib.Core.Path.{_≡_, refl, sym, ap, _∙_}
+use Prim.Native.Nat.{ℕ, _^_, _<_}
+use mathlib.Core.Path.{_≡_, refl, ap, _∙_}
 use mathlib.Core.Bool.{Bool, true, false, _&&_, true≢false}
 use mathlib.Core.List.{List}
 use lib.ListN.{length}
@@ -11,8 +10,8 @@ use Rattle.aldlf.specs.Verdict.{facing}
 use Rattle.aldlf.proofs.Across.{reached-cong}
 use Rattle.reach.specs.declared.Goal.{Goal}
 use Rattle.reach.specs.Marks.{at, pick, sliceSheet, holdsIn, goalOf, EdgesFit, Reaching}
-use Rattle.reach.specs.Steps.{reachedFrom, seedOf, Seeded, Marking, allDue, noneDue}
-use Rattle.reach.proofs.Bits.{bit-zero, stored}
+use Rattle.reach.specs.Steps.{reachedFrom, Seeded, Marking, allDue, noneDue}
+use Rattle.reach.proofs.Bits.{bit-zero}
 use Rattle.reach.proofs.Marking.{marked, seeds-reached}
 
 -- the seeds themselves: every edge is due

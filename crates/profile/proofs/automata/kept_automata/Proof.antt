@@ -23,25 +23,25 @@ abbrev μ-loop : tie.MeasureT-loop
 
 -- the automaton read is the table's
 read : (c : tie.After-automaton-at Inv-loop μ-loop) → let S = c .before .before .before .before .before in (t : Table) → Roomy t (now (S .args .numbers)) → c .automaton-at .result ≡ automatonAt t (c .before .before .loop .m)
-read c t R = c .automaton-at .ensures ∙ R .lent .packed .automaton-is (c .before .before .loop .m) (c .before .loop-test .taken)
+read c t R = c .automaton-at .ensures ∙ R .packed .automaton-is (c .before .before .loop .m) (c .before .loop-test .taken)
 
 no-automaton-requires : tie.Need-no-automaton-requires Inv-loop μ-loop
 no-automaton-requires c κs = search needs
 
 loop-holds : tie.Need-loop-holds Inv-loop μ-loop
-loop-holds c = (omega arith, λ t R. placed-none keptAutomaton noAutomaton (t .automata) _ (sym (R .lent .packed .automata-length)))
+loop-holds c = (omega arith, λ t R. placed-none keptAutomaton noAutomaton (t .automata) _ (sym (R .packed .automata-length)))
 
 cast-automaton-at : tie.Need-cast-automaton-at Inv-loop μ-loop
 cast-automaton-at c = omega (arith, c .loop-test .taken)
 
 automaton-at-requires : tie.Need-automaton-at-requires Inv-loop μ-loop
-automaton-at-requires c κs = (c .before .before .before .before .pre .1 .lent .packed .size, c .loop-test .taken)
+automaton-at-requires c κs = (c .before .before .before .before .pre .1 .packed .size, c .loop-test .taken)
 
 kept-automaton-requires : tie.Need-kept-automaton-requires Inv-loop μ-loop
 kept-automaton-requires c κs =
     let R = c .before .before .before .before .before .pre in
     let e = ap (λ (x : Automaton). x .before) (read c (R .0) (R .1)) in
-    omega (arith, before-small (R .0) (R .1 .lent .given) (R .1 .room) (c .before .before .loop .m))
+    omega (arith, before-small (R .0) (R .1 .given) (R .1 .room) (c .before .before .loop .m))
 
 mul-out : tie.Need-mul-out Inv-loop μ-loop
 mul-out c = omega (arith, c .before .before .loop-test .taken)
@@ -59,12 +59,12 @@ loop-again : tie.Need-loop-again Inv-loop μ-loop
 loop-again c = let l = c .before .before .before .loop in (
   omega (arith, c .before .before .loop-test .taken),
   λ t R.
-      placed-next keptAutomaton noAutomaton (t .automata) (l .out) (l .m) (c .kept-automaton .result) (omega (arith, c .before .before .loop-test .taken, R .lent .packed .automata-length))
+      placed-next keptAutomaton noAutomaton (t .automata) (l .out) (l .m) (c .kept-automaton .result) (omega (arith, c .before .before .loop-test .taken, R .packed .automata-length))
       (c .kept-automaton .ensures ∙ ap keptAutomaton (read (c .before) t R)) (l .inv .1 t R),
 )
 
 returns : tie.Need-returns Inv-loop μ-loop
-returns c = let l = c .before .loop in λ t R. placed-all keptAutomaton noAutomaton (t .automata) (l .out) (l .m) refl (omega (arith, c .loop-test .left, R .lent .packed .automata-length)) (l .inv .1 t R)
+returns c = let l = c .before .loop in λ t R. placed-all keptAutomaton noAutomaton (t .automata) (l .out) (l .m) refl (omega (arith, c .loop-test .left, R .packed .automata-length)) (l .inv .1 t R)
 
 pub kept-automata-spec : {M : Type 1} → statement M
 kept-automata-spec =

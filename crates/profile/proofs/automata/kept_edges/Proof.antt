@@ -23,25 +23,25 @@ abbrev μ-loop : tie.MeasureT-loop
 
 -- the edge read is the table's
 read : (c : tie.After-edge-at Inv-loop μ-loop) → let S = c .before .before .before .before .before in (t : Table) → Roomy t (now (S .args .numbers)) → c .edge-at .result ≡ edgeAt t (c .before .before .loop .e)
-read c t R = c .edge-at .ensures ∙ R .lent .packed .edge-is (c .before .before .loop .e) (c .before .loop-test .taken)
+read c t R = c .edge-at .ensures ∙ R .packed .edge-is (c .before .before .loop .e) (c .before .loop-test .taken)
 
 no-edge-requires : tie.Need-no-edge-requires Inv-loop μ-loop
 no-edge-requires c κs = search needs
 
 loop-holds : tie.Need-loop-holds Inv-loop μ-loop
-loop-holds c = (omega arith, λ t R. placed-none keptEdge noEdge (t .edges) _ (sym (R .lent .packed .edges-length)))
+loop-holds c = (omega arith, λ t R. placed-none keptEdge noEdge (t .edges) _ (sym (R .packed .edges-length)))
 
 cast-edge-at : tie.Need-cast-edge-at Inv-loop μ-loop
 cast-edge-at c = omega (arith, c .loop-test .taken)
 
 edge-at-requires : tie.Need-edge-at-requires Inv-loop μ-loop
-edge-at-requires c κs = (c .before .before .before .before .pre .1 .lent .packed .size, c .loop-test .taken)
+edge-at-requires c κs = (c .before .before .before .before .pre .1 .packed .size, c .loop-test .taken)
 
 kept-edge-requires : tie.Need-kept-edge-requires Inv-loop μ-loop
 kept-edge-requires c κs =
     let R = c .before .before .before .before .before .pre in
     let e = ap (λ (x : Edge). x .test .0) (read c (R .0) (R .1)) in
-    omega (arith, test-small (R .0) (R .1 .lent .given) (R .1 .room) (c .before .before .loop .e))
+    omega (arith, test-small (R .0) (R .1 .given) (R .1 .room) (c .before .before .loop .e))
 
 mul-out : tie.Need-mul-out Inv-loop μ-loop
 mul-out c = omega (arith, c .before .before .loop-test .taken)
@@ -59,12 +59,12 @@ loop-again : tie.Need-loop-again Inv-loop μ-loop
 loop-again c = let l = c .before .before .before .loop in (
   omega (arith, c .before .before .loop-test .taken),
   λ t R.
-      placed-next keptEdge noEdge (t .edges) (l .out) (l .e) (c .kept-edge .result) (omega (arith, c .before .before .loop-test .taken, R .lent .packed .edges-length))
+      placed-next keptEdge noEdge (t .edges) (l .out) (l .e) (c .kept-edge .result) (omega (arith, c .before .before .loop-test .taken, R .packed .edges-length))
       (c .kept-edge .ensures ∙ ap keptEdge (read (c .before) t R)) (l .inv .1 t R),
 )
 
 returns : tie.Need-returns Inv-loop μ-loop
-returns c = let l = c .before .loop in λ t R. placed-all keptEdge noEdge (t .edges) (l .out) (l .e) refl (omega (arith, c .loop-test .left, R .lent .packed .edges-length)) (l .inv .1 t R)
+returns c = let l = c .before .loop in λ t R. placed-all keptEdge noEdge (t .edges) (l .out) (l .e) refl (omega (arith, c .loop-test .left, R .packed .edges-length)) (l .inv .1 t R)
 
 pub kept-edges-spec : {M : Type 1} → statement M
 kept-edges-spec =

@@ -20,10 +20,10 @@ used-in-requires : tie.Need-used-in-requires
 used-in-requires c κs = search needs
 
 mul-t7 : tie.Need-mul-t7
-mul-t7 c = let R = c .before .before .before .before .before .before .pre in omega (arith, R .1 .room, ap (λ (u : Used). u .nodes) (c .before .used-in .ensures ∙ R .1 .lent .packed .used-is))
+mul-t7 c = let R = c .before .before .before .before .before .before .pre in omega (arith, R .1 .room, ap (λ (u : Used). u .nodes) (c .before .used-in .ensures ∙ R .1 .packed .used-is))
 
 add-t8 : tie.Need-add-t8
-add-t8 c = let R = c .before .before .before .before .before .before .pre in omega (arith, R .1 .room, ap (λ (u : Used). u .nodes) (c .before .used-in .ensures ∙ R .1 .lent .packed .used-is))
+add-t8 c = let R = c .before .before .before .before .before .before .pre in omega (arith, R .1 .room, ap (λ (u : Used). u .nodes) (c .before .used-in .ensures ∙ R .1 .packed .used-is))
 
 returns : tie.Need-returns
 returns c = λ t R.
@@ -32,7 +32,7 @@ returns c = λ t R.
     let m = e .before in
     let l = m .before in
     parts-of t (l .profile-lines .result) (m .kept-automata .result) (e .kept-edges .result) (u .used-in .result) (l .profile-lines .ensures t R) (m .kept-automata .ensures t R) (e .kept-edges .ensures t R)
-    (u .used-in .ensures ∙ R .lent .packed .used-is)
+    (u .used-in .ensures ∙ R .packed .used-is)
 
 pub profile-of-spec : {M : Type 1} → statement M
 profile-of-spec =

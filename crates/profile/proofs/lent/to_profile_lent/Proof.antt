@@ -19,7 +19,7 @@ answer number table = record { number = number; table = table }
 roomy : (c : tie.Else1) → (t : Table) → Packed t (now (c .before .before .before .args .numbers)) → Roomy t (now (c .before .before .before .args .numbers))
 roomy c t P =
     let a = accepted-of t (sym (c .before .profile-question .ensures t P) ∙ c .if1 .left) in
-    record { lent = record { packed = P; given = a .given }; room = a .room }
+    record { packed = P; given = a .given; room = a .room }
 
 profile-question-requires : tie.Need-profile-question-requires
 profile-question-requires c κs = search needs

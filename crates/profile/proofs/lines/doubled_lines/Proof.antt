@@ -31,25 +31,25 @@ has-room c = let R = c .before .before .before .before .before .pre in omega (ar
 
 -- the line read is the table's, and so are the nodes that it names
 read : (c : tie.After-line-at Inv-loop μ-loop) → let S = c .before .before .before .before .before .before in (t : Table) → Roomy t (now (S .args .numbers)) → c .line-at .result ≡ nodeAt t (c .before .before .loop .k)
-read c t R = c .line-at .ensures ∙ R .lent .packed .line-is (c .before .before .loop .k) (omega (arith, has-room (c .before)))
+read c t R = c .line-at .ensures ∙ R .packed .line-is (c .before .before .loop .k) (omega (arith, has-room (c .before)))
 
 names : (c : tie.After-line-at Inv-loop μ-loop) → Doubles (c .line-at .result)
 names c =
     let R = c .before .before .before .before .before .before .pre in
-    subst Doubles (sym (read c (R .0) (R .1))) (doubles (R .0) (R .1 .lent .given) (R .1 .room) (c .before .before .loop .k) (in-sheet (c .before) (R .0) (R .1)))
+    subst Doubles (sym (read c (R .0) (R .1))) (doubles (R .0) (R .1 .given) (R .1 .room) (c .before .before .loop .k) (in-sheet (c .before) (R .0) (R .1)))
 
 no-line-requires : tie.Need-no-line-requires Inv-loop μ-loop
 no-line-requires c κs = search needs
 
 used-in-requires : tie.Need-used-in-requires Inv-loop μ-loop
-used-in-requires c κs = c .before .before .pre .1 .lent .packed .size
+used-in-requires c κs = c .before .before .pre .1 .packed .size
 
 loop-holds : tie.Need-loop-holds Inv-loop μ-loop
 unfolding doubled
-loop-holds c = (omega arith, λ t R. ap (λ (u : Used). u .nodes) (c .used-in .ensures ∙ R .lent .packed .used-is), λ t R. ap (replicate nodeLimit) (c .before .no-line .ensures))
+loop-holds c = (omega arith, λ t R. ap (λ (u : Used). u .nodes) (c .used-in .ensures ∙ R .packed .used-is), λ t R. ap (replicate nodeLimit) (c .before .no-line .ensures))
 
 line-at-requires : tie.Need-line-at-requires Inv-loop μ-loop
-line-at-requires c κs = (c .before .before .before .before .before .pre .1 .lent .packed .size, omega (arith, has-room c))
+line-at-requires c κs = (c .before .before .before .before .before .pre .1 .packed .size, omega (arith, has-room c))
 
 cast-i : tie.Need-cast-i Inv-loop μ-loop
 cast-i c = search needs

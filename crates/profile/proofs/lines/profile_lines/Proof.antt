@@ -16,7 +16,7 @@ use Rattle.profile.proofs.lines.profile_lines.Tie as tie
 
 -- so many old lines
 count : (c : tie.After-struct-known) → let S = c .before .before .before .before in (t : Table) → Roomy t (now (S .args .numbers)) → c .before .used-in .result .nodes ≡ t .used .nodes
-count c t R = ap (λ (u : Used). u .nodes) (c .before .used-in .ensures ∙ R .lent .packed .used-is)
+count c t R = ap (λ (u : Used). u .nodes) (c .before .used-in .ensures ∙ R .packed .used-is)
 
 doubled-lines-requires : tie.Need-doubled-lines-requires
 doubled-lines-requires c κs = search needs
@@ -28,7 +28,7 @@ cast-n : tie.Need-cast-n
 cast-n c = search needs
 
 sub-x : tie.Need-sub-x
-sub-x c = let R = c .before .before .before .before .pre in omega (arith, count c (R .0) (R .1), table-facts (R .0) (R .1 .lent .given) .some-node)
+sub-x c = let R = c .before .before .before .before .pre in omega (arith, count c (R .0) (R .1), table-facts (R .0) (R .1 .given) .some-node)
 
 mul-x : tie.Need-mul-x
 mul-x c = search needs
