@@ -13,10 +13,11 @@ use Rattle.aldlf.proofs.Across.{reached-cong}
 abbrev pub lineSays : Sheet → List ℕ → (ℕ → ℕ → Bool) → Line → ℕ → Bool
 lineSays S log h l i = says S log (λ k s. plainLine l) h 0 l i
 
--- Line l names only nodes below k, and so do the edges of its automaton.
+-- The edges of automaton m test only nodes below k.
 abbrev pub Tests : Sheet → (k m : ℕ) → Type 0
 Tests S k m = (e : ℕ) → S .automaton m .first ≤ e → e < S .automaton m .first + S .automaton m .count → S .edge e .test < k
 
+-- A line names only nodes below k, and so do the edges of its automaton.
 abbrev pub Known : Sheet → ℕ → Line → Type 0
 Known S k T = Unit {0}
 Known S k F = Unit {0}

@@ -26,7 +26,7 @@ use Rattle.sheet.proofs.Decided.{wf-yes}
 use Rattle.profile.specs.declared.ProfileAnswer.{ProfileAnswer}
 use Rattle.profile.specs.declared.ProfileCheck.{ProfileCheck}
 use Rattle.profile.specs.Profile.{line, exchanged, keptLine, oppositeLine, keptIn, oppositeIn, doubled, profileLines, keptAutomaton, keptEdge, profileOf, profileNumber, profileOutcome, lineInProfile, inProfile, profileCheck}
-use Rattle.profile.specs.Room.{Doubles}
+use Rattle.profile.specs.Room.{NamesRoom}
 
 -- What fits -----------------------------------------------------------------------------------------------------------------------
 
@@ -42,8 +42,8 @@ module _ (t : Table) (w : wellFormed t ≡ true) (r : 2 * t .used .nodes + 1 ≤
   f = table-facts t w
 
   -- the nodes that old line k names have room for their two lines
-  pub doubles : (k : ℕ) → k < t .used .nodes → Doubles (nodeAt t k)
-  doubles k l =
+  pub names-room : (k : ℕ) → k < t .used .nodes → NamesRoom (nodeAt t k)
+  names-room k l =
       let x = f .node k l in
       record {
         not< = λ e. omega (arith, x .not< e);

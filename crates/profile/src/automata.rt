@@ -12,12 +12,12 @@ ghost use Prim.Native.Nat.{_*_, _<_};
 ghost use Rattle.aldlf.specs.Constants.{nodeLimit};
 ghost use Rattle.aldlf.specs.declared.Table.{Table};
 ghost use Rattle.profile.specs.Profile.{keptAutomaton, keptEdge};
-ghost use Rattle.profile.specs.Room.{Roomy};
+ghost use Rattle.profile.specs.Room.{ProfileRoom};
 
 // The automata, their M lines between the new lines as they stood between the old ones.
 pub(crate) fn kept_automata(numbers: &[u32]) -> [Automaton; aldlf::AUTOMATA]
-    requires { ⌜ ((t : Table) × Roomy t (now numbers)) ⌝ }
-    ensures { λ r. ⌜ ((t : Table) → Roomy t (now (numbers .entry)) → r ≡ map keptAutomaton (t .automata)) ⌝ }
+    requires { ⌜ ((t : Table) × ProfileRoom t (now numbers)) ⌝ }
+    ensures { λ r. ⌜ ((t : Table) → ProfileRoom t (now (numbers .entry)) → r ≡ map keptAutomaton (t .automata)) ⌝ }
 {
     let none = no_automaton();
     let mut out = [none; aldlf::AUTOMATA];
@@ -49,8 +49,8 @@ fn kept_automaton(x: Automaton) -> Automaton
 
 // The edges, each naming 2a for a.
 pub(crate) fn kept_edges(numbers: &[u32]) -> [Edge; aldlf::EDGES]
-    requires { ⌜ ((t : Table) × Roomy t (now numbers)) ⌝ }
-    ensures { λ r. ⌜ ((t : Table) → Roomy t (now (numbers .entry)) → r ≡ map keptEdge (t .edges)) ⌝ }
+    requires { ⌜ ((t : Table) × ProfileRoom t (now numbers)) ⌝ }
+    ensures { λ r. ⌜ ((t : Table) → ProfileRoom t (now (numbers .entry)) → r ≡ map keptEdge (t .edges)) ⌝ }
 {
     let none = no_edge();
     let mut out = [none; aldlf::EDGES];

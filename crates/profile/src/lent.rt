@@ -13,7 +13,7 @@ ghost use mathlib.Core.Path.{_≡_};
 ghost use Rattle.aldlf.specs.declared.Table.{Table};
 ghost use Rattle.packing.specs.Packed.{Packed};
 ghost use Rattle.profile.specs.Profile.{profileOf, profileNumber, profileOutcome, profileCheck};
-ghost use Rattle.profile.specs.Room.{Roomy};
+ghost use Rattle.profile.specs.Room.{ProfileRoom};
 
 // The table in the profile, as `to_profile` gives it.
 pub fn to_profile_lent(numbers: &[u32]) -> ProfileAnswer
@@ -67,8 +67,8 @@ fn profile_question(numbers: &[u32]) -> u8
 
 // The table in the profile, of a table that has room for it.
 fn profile_of(numbers: &[u32]) -> Table
-    requires { ⌜ ((t : Table) × Roomy t (now numbers)) ⌝ }
-    ensures { λ r. ⌜ ((t : Table) → Roomy t (now (numbers .entry)) → r ≡ profileOf t) ⌝ }
+    requires { ⌜ ((t : Table) × ProfileRoom t (now numbers)) ⌝ }
+    ensures { λ r. ⌜ ((t : Table) → ProfileRoom t (now (numbers .entry)) → r ≡ profileOf t) ⌝ }
 {
     let nodes = profile_lines(numbers);
     let automata = kept_automata(numbers);

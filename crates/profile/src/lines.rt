@@ -9,12 +9,12 @@ ghost use Prim.Native.Nat.{_+_, _*_, _<_};
 ghost use Rattle.aldlf.specs.Constants.{nodeLimit};
 ghost use Rattle.aldlf.specs.declared.Table.{Table};
 ghost use Rattle.profile.specs.Profile.{exchanged, keptLine, oppositeLine, doubled, profileLines};
-ghost use Rattle.profile.specs.Room.{Roomy, Doubles};
+ghost use Rattle.profile.specs.Room.{ProfileRoom, NamesRoom};
 
 // All new lines: a last line repeats the rule's.
 pub(crate) fn profile_lines(numbers: &[u32]) -> [NodeLine; aldlf::NODES]
-    requires { ⌜ ((t : Table) × Roomy t (now numbers)) ⌝ }
-    ensures { λ r. ⌜ ((t : Table) → Roomy t (now (numbers .entry)) → r ≡ profileLines (t .nodes) (t .used .nodes)) ⌝ }
+    requires { ⌜ ((t : Table) × ProfileRoom t (now numbers)) ⌝ }
+    ensures { λ r. ⌜ ((t : Table) → ProfileRoom t (now (numbers .entry)) → r ≡ profileLines (t .nodes) (t .used .nodes)) ⌝ }
 {
     let mut out = doubled_lines(numbers);
     let n = used_in(numbers).nodes as usize;
@@ -25,8 +25,8 @@ pub(crate) fn profile_lines(numbers: &[u32]) -> [NodeLine; aldlf::NODES]
 
 // The two new lines of each old one. An `N,a` line repeats the two lines of a in the other order.
 fn doubled_lines(numbers: &[u32]) -> [NodeLine; aldlf::NODES]
-    requires { ⌜ ((t : Table) × Roomy t (now numbers)) ⌝ }
-    ensures { λ r. ⌜ ((t : Table) → Roomy t (now (numbers .entry)) → r ≡ doubled (t .nodes) (t .used .nodes)) ⌝ }
+    requires { ⌜ ((t : Table) × ProfileRoom t (now numbers)) ⌝ }
+    ensures { λ r. ⌜ ((t : Table) → ProfileRoom t (now (numbers .entry)) → r ≡ doubled (t .nodes) (t .used .nodes)) ⌝ }
 {
     let none = no_line();
     let mut out = [none; aldlf::NODES];
@@ -54,7 +54,7 @@ fn doubled_lines(numbers: &[u32]) -> [NodeLine; aldlf::NODES]
 
 // New line 2k, for an old line k that is no N: the same letter over the new nodes 2a.
 fn kept_line(x: NodeLine) -> NodeLine
-    requires { ⌜ Doubles x ⌝ }
+    requires { ⌜ NamesRoom x ⌝ }
     ensures { λ r. ⌜ r ≡ keptLine x ⌝ }
 {
     let c = x.kind;
@@ -75,7 +75,7 @@ fn kept_line(x: NodeLine) -> NodeLine
 
 // New line 2k+1, for an old line k that is no N: its opposite.
 fn opposite_line(k: Node, x: NodeLine) -> NodeLine
-    requires { ⌜ (2 * k .0 + 1 < nodeLimit) × Doubles x ⌝ }
+    requires { ⌜ (2 * k .0 + 1 < nodeLimit) × NamesRoom x ⌝ }
     ensures { λ r. ⌜ r ≡ oppositeLine (k .0) x ⌝ }
 {
     let c = x.kind;

@@ -10,19 +10,19 @@ use Rattle.aldlf.specs.declared.Automaton.{Automaton}
 use Rattle.aldlf.specs.declared.Table.{Table}
 use Rattle.sheet.specs.Facts.{automatonAt}
 use Rattle.profile.specs.Profile.{keptAutomaton}
-use Rattle.profile.specs.Room.{Roomy}
+use Rattle.profile.specs.Room.{ProfileRoom}
 use Rattle.profile.proofs.Laws.{before-small, Placed, placed-none, placed-next, placed-all}
 use Rattle.profile.proofs.automata.kept_automata.Statement.{statement}
 use Rattle.profile.proofs.automata.kept_automata.Tie as tie
 
 abbrev Inv-loop : tie.InvT-loop
-Inv-loop numbers out₀ m₀ out m = (m ≤ automatonLimit) × ((t : Table) → Roomy t numbers → Placed keptAutomaton noAutomaton (t .automata) out m)
+Inv-loop numbers out₀ m₀ out m = (m ≤ automatonLimit) × ((t : Table) → ProfileRoom t numbers → Placed keptAutomaton noAutomaton (t .automata) out m)
 
 abbrev μ-loop : tie.MeasureT-loop
 μ-loop numbers out₀ m₀ out m = automatonLimit - m
 
 -- the automaton read is the table's
-read : (c : tie.After-automaton-at Inv-loop μ-loop) → let S = c .before .before .before .before .before in (t : Table) → Roomy t (now (S .args .numbers)) → c .automaton-at .result ≡ automatonAt t (c .before .before .loop .m)
+read : (c : tie.After-automaton-at Inv-loop μ-loop) → let S = c .before .before .before .before .before in (t : Table) → ProfileRoom t (now (S .args .numbers)) → c .automaton-at .result ≡ automatonAt t (c .before .before .loop .m)
 read c t R = c .automaton-at .ensures ∙ R .packed .automaton-is (c .before .before .loop .m) (c .before .loop-test .taken)
 
 no-automaton-requires : tie.Need-no-automaton-requires Inv-loop μ-loop

@@ -10,19 +10,19 @@ use Rattle.aldlf.specs.declared.Edge.{Edge}
 use Rattle.aldlf.specs.declared.Table.{Table}
 use Rattle.sheet.specs.Facts.{edgeAt}
 use Rattle.profile.specs.Profile.{keptEdge}
-use Rattle.profile.specs.Room.{Roomy}
+use Rattle.profile.specs.Room.{ProfileRoom}
 use Rattle.profile.proofs.Laws.{test-small, Placed, placed-none, placed-next, placed-all}
 use Rattle.profile.proofs.automata.kept_edges.Statement.{statement}
 use Rattle.profile.proofs.automata.kept_edges.Tie as tie
 
 abbrev Inv-loop : tie.InvT-loop
-Inv-loop numbers out₀ e₀ out e = (e ≤ edgeLimit) × ((t : Table) → Roomy t numbers → Placed keptEdge noEdge (t .edges) out e)
+Inv-loop numbers out₀ e₀ out e = (e ≤ edgeLimit) × ((t : Table) → ProfileRoom t numbers → Placed keptEdge noEdge (t .edges) out e)
 
 abbrev μ-loop : tie.MeasureT-loop
 μ-loop numbers out₀ e₀ out e = edgeLimit - e
 
 -- the edge read is the table's
-read : (c : tie.After-edge-at Inv-loop μ-loop) → let S = c .before .before .before .before .before in (t : Table) → Roomy t (now (S .args .numbers)) → c .edge-at .result ≡ edgeAt t (c .before .before .loop .e)
+read : (c : tie.After-edge-at Inv-loop μ-loop) → let S = c .before .before .before .before .before in (t : Table) → ProfileRoom t (now (S .args .numbers)) → c .edge-at .result ≡ edgeAt t (c .before .before .loop .e)
 read c t R = c .edge-at .ensures ∙ R .packed .edge-is (c .before .before .loop .e) (c .before .loop-test .taken)
 
 no-edge-requires : tie.Need-no-edge-requires Inv-loop μ-loop

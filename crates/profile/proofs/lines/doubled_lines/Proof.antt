@@ -11,32 +11,32 @@ use Rattle.aldlf.specs.declared.Table.{Table}
 use Rattle.aldlf.specs.declared.Used.{Used}
 use Rattle.sheet.specs.Facts.{nodeAt}
 use Rattle.profile.specs.Profile.{keptIn, oppositeIn, doubled}
-use Rattle.profile.specs.Room.{Roomy, Doubles}
-use Rattle.profile.proofs.Laws.{doubles, doubled-next, kept-not, kept-plain, opposite-not, opposite-plain}
+use Rattle.profile.specs.Room.{ProfileRoom, NamesRoom}
+use Rattle.profile.proofs.Laws.{names-room, doubled-next, kept-not, kept-plain, opposite-not, opposite-plain}
 use Rattle.profile.proofs.lines.doubled_lines.Statement.{statement}
 use Rattle.profile.proofs.lines.doubled_lines.Tie as tie
 
 abbrev Inv-loop : tie.InvT-loop
-Inv-loop numbers out₀ n k₀ out k = (k ≤ n) × ((t : Table) → Roomy t numbers → n ≡ t .used .nodes) × ((t : Table) → Roomy t numbers → out ≡ doubled (t .nodes) k)
+Inv-loop numbers out₀ n k₀ out k = (k ≤ n) × ((t : Table) → ProfileRoom t numbers → n ≡ t .used .nodes) × ((t : Table) → ProfileRoom t numbers → out ≡ doubled (t .nodes) k)
 
 abbrev μ-loop : tie.MeasureT-loop
 μ-loop numbers out₀ n k₀ out k = n - k
 
 -- the line looked at is on the sheet, and there is room for its two lines
-in-sheet : (c : tie.In-loop Inv-loop μ-loop) → let S = c .before .before .before .before .before in (t : Table) → Roomy t (now (S .args .numbers)) → c .before .loop .k < t .used .nodes
+in-sheet : (c : tie.In-loop Inv-loop μ-loop) → let S = c .before .before .before .before .before in (t : Table) → ProfileRoom t (now (S .args .numbers)) → c .before .loop .k < t .used .nodes
 in-sheet c t R = omega (arith, c .loop-test .taken, c .before .loop .inv .1 t R)
 
 has-room : (c : tie.In-loop Inv-loop μ-loop) → 2 * c .before .loop .k + 1 < nodeLimit
 has-room c = let R = c .before .before .before .before .before .pre in omega (arith, in-sheet c (R .0) (R .1), R .1 .room)
 
 -- the line read is the table's, and so are the nodes that it names
-read : (c : tie.After-line-at Inv-loop μ-loop) → let S = c .before .before .before .before .before .before in (t : Table) → Roomy t (now (S .args .numbers)) → c .line-at .result ≡ nodeAt t (c .before .before .loop .k)
+read : (c : tie.After-line-at Inv-loop μ-loop) → let S = c .before .before .before .before .before .before in (t : Table) → ProfileRoom t (now (S .args .numbers)) → c .line-at .result ≡ nodeAt t (c .before .before .loop .k)
 read c t R = c .line-at .ensures ∙ R .packed .line-is (c .before .before .loop .k) (omega (arith, has-room (c .before)))
 
-names : (c : tie.After-line-at Inv-loop μ-loop) → Doubles (c .line-at .result)
+names : (c : tie.After-line-at Inv-loop μ-loop) → NamesRoom (c .line-at .result)
 names c =
     let R = c .before .before .before .before .before .before .pre in
-    subst Doubles (sym (read c (R .0) (R .1))) (doubles (R .0) (R .1 .given) (R .1 .room) (c .before .before .loop .k) (in-sheet (c .before) (R .0) (R .1)))
+    subst NamesRoom (sym (read c (R .0) (R .1))) (names-room (R .0) (R .1 .given) (R .1 .room) (c .before .before .loop .k) (in-sheet (c .before) (R .0) (R .1)))
 
 no-line-requires : tie.Need-no-line-requires Inv-loop μ-loop
 no-line-requires c κs = search needs

@@ -8,14 +8,14 @@ use Rattle.aldlf.specs.Sheet.{noLine}
 use Rattle.aldlf.specs.declared.Table.{Table}
 use Rattle.aldlf.specs.declared.Used.{Used}
 use Rattle.sheet.proofs.Facts.{table-facts}
-use Rattle.profile.specs.Room.{Roomy}
+use Rattle.profile.specs.Room.{ProfileRoom}
 use Rattle.profile.proofs.Laws.{last-put}
 use borrow.Author.Needs.{needs}
 use Rattle.profile.proofs.lines.profile_lines.Statement.{statement}
 use Rattle.profile.proofs.lines.profile_lines.Tie as tie
 
 -- so many old lines
-count : (c : tie.After-struct-known) → let S = c .before .before .before .before in (t : Table) → Roomy t (now (S .args .numbers)) → c .before .used-in .result .nodes ≡ t .used .nodes
+count : (c : tie.After-struct-known) → let S = c .before .before .before .before in (t : Table) → ProfileRoom t (now (S .args .numbers)) → c .before .used-in .result .nodes ≡ t .used .nodes
 count c t R = ap (λ (u : Used). u .nodes) (c .before .used-in .ensures ∙ R .packed .used-is)
 
 doubled-lines-requires : tie.Need-doubled-lines-requires
