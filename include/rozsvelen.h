@@ -53,6 +53,12 @@ uint64_t rozsvelen_profile(const uint16_t *table, size_t table_len, uint16_t *ou
 /* Counts 1 where a table is in the plain profile, each N line of it naming a fact's line; else 0. Question 31. Stack: 8 KB. */
 uint64_t rozsvelen_in_profile(const uint16_t *table, size_t table_len);
 
+/* Which ways the rule looks, in the count's place: ROZSVELEN_AHEAD if it stands on an edge that goes ahead, plus ROZSVELEN_BACK if on one that
+ * goes back; so 0 to 3. The rule, the last node, stands on itself; on the nodes that a node it stands on names; and where that is a D or B, on
+ * each edge of its automaton, reached or not, and on the node that the edge tests. A log may be cut looking ahead unless the rule looks back,
+ * and looking back unless it looks ahead. Question 31. Stack: 8 KB. */
+uint64_t rozsvelen_rule_looks(const uint16_t *table, size_t table_len);
+
 /* Reads a job log's text into words, bit f for fact f, and counts the entries. The words take the first places, the rest keep their content.
  * Questions 21 to 27. Stack: 1 KB. */
 uint64_t rozsvelen_read_log(const uint8_t *text, size_t text_len, uint32_t *words, size_t words_len);
@@ -80,12 +86,14 @@ uint64_t rozsvelen_judge(const uint16_t *table, size_t table_len, const uint32_t
 uint64_t rozsvelen_judge_logs(const uint16_t *table, size_t table_len, const uint32_t *words, size_t words_len, const uint16_t *lengths,
                               size_t lengths_len, uint64_t *verdicts, size_t verdicts_len, uint16_t *held, size_t held_len);
 
-/* Puts the plain row, which the first part of a run gets, into a row of ROZSVELEN_ROW numbers. Questions 35, 31. Stack: 8 KB. */
+/* Puts the plain row, which the first part of a run gets, into a row of ROZSVELEN_ROW numbers: of a B that the rule stands on the bits of its
+ * automaton's states are set, all others are 0. Questions 35, 31. Stack: 8 KB. */
 uint64_t rozsvelen_plain_row(const uint16_t *table, size_t table_len, uint16_t *row, size_t row_len);
 
 /* Judges a part of a log, given the row of the entry just outside it, and puts the row for the next part in its place.
  * way: ROZSVELEN_AHEAD, parts come from the last to the first; ROZSVELEN_BACK, from the first to the last.
- * Questions 35 (the row), 43, 31, 34, 32, 33. Stack: 72 KB. */
+ * Only the nodes that the rule stands on (rozsvelen_rule_looks) are judged: the verdict bits of the others are 0, and their bits of the row are
+ * ignored and put there as 0. Questions 35 (the row), 43, 31, 34 (the rule stands on no edge that goes the other way), 32, 33. Stack: 72 KB. */
 uint64_t rozsvelen_judge_part(const uint16_t *table, size_t table_len, uint32_t way, uint16_t *row, size_t row_len,
                               const uint32_t *words, size_t words_len, uint64_t *verdicts, size_t verdicts_len);
 

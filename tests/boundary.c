@@ -1,5 +1,6 @@
 /* What only a caller in C can do or see: the parts of an answer, empty slices at NULL, and the stack that each call takes; and numbers with
- * zeros before them, profiles, logs with counters, steps and entries of counters, through the C calls. Ends in 'N passed, M failed'. */
+ * zeros before them, profiles, sheets with spare automata, logs with counters, steps and entries of counters, through the C calls.
+ * Ends in 'N passed, M failed'. */
 #include "rozsvelen.h"
 
 #include <pthread.h>
@@ -55,6 +56,7 @@ static const uint8_t *text(const char *s) { return (const uint8_t *)s; }
 static void read_sheet(void) { answer = rozsvelen_read_sheet(text(rules), strlen(rules), table, ROZSVELEN_TABLE); }
 static void profile(void) { answer = rozsvelen_profile(table, ROZSVELEN_TABLE, made, ROZSVELEN_TABLE); }
 static void in_profile(void) { answer = rozsvelen_in_profile(made, ROZSVELEN_TABLE); }
+static void rule_looks(void) { answer = rozsvelen_rule_looks(table, ROZSVELEN_TABLE); }
 static void read_log(void) { answer = rozsvelen_read_log(text(steps), strlen(steps), words, ROZSVELEN_ENTRIES); }
 static void read_counted(void) { answer = rozsvelen_read_counted(text(counted), strlen(counted), words_again, ROZSVELEN_ENTRIES); }
 static void steps_between(void) { answer = rozsvelen_steps_between(FIRST, FIRST - 1); }
@@ -135,6 +137,7 @@ static void empty_slices(void) {
     check("profile with no table", rozsvelen_profile(NULL, 0, made, T) == refused(31));
     check("profile into no table", rozsvelen_profile(table, T, NULL, 0) == refused(35));
     check("in_profile with no table", rozsvelen_in_profile(NULL, 0) == refused(31));
+    check("rule_looks with no table", rozsvelen_rule_looks(NULL, 0) == refused(31));
     check("read_log of no text", rozsvelen_read_log(NULL, 0, words, N) == refused(22));
     check("read_log into no words", rozsvelen_read_log(log, 2, NULL, 0) == refused(27));
     check("read_counted of no text", rozsvelen_read_counted(NULL, 0, words, N) == refused(22));
@@ -251,6 +254,96 @@ static void profiles_told(void) {
     check("in_profile of a profile", rozsvelen_profile(old, T, out, T) == 0 && rozsvelen_in_profile(out, T) == 1);
 }
 
+/* What a part that is all of the log `0`, `1`, `2` gives beside the plain row, with every ignored bit of that row set. */
+#define U "T\nP,1\nM,1,0\nG,0\nE,0,1,0,0\nM,1,0\nG,0\nE,0,2,0,0\nD,1,1\nD,0,1\n"
+#define BACK_D "T\nP,1\nM,1,0\nG,0\nE,0,2,0,0\nD,0,1\n"
+struct spare {
+    const char *name, *sheet;
+    uint64_t looks, verdicts[3];
+    int counts; /* the one number of the row whose bits count, or ROW */
+    uint16_t bits, before, after; /* those bits, in the plain row, and in the row that the part gives */
+    uint64_t whole[3];
+};
+enum { ROW = ROZSVELEN_ROW };
+static const struct spare spares[] = {
+    { "U", U, 1, { 9, 11, 1 }, 3, 1, 0, 1, { 9, 15, 5 } },
+    { "U with the automata exchanged", "T\nP,1\nM,1,0\nG,0\nE,0,2,0,0\nM,1,0\nG,0\nE,0,1,0,0\nD,1,1\nD,0,1\n", 2, { 1, 11, 9 }, 3, 1, 0, 1,
+      { 5, 15, 9 } },
+    { "a fact behind a D", "T\nP,1\nM,1,0\nG,0\nE,0,1,0,0\nE,0,2,0,0\nD,0,1\nP,1\n", 0, { 0, 8, 0 }, ROW, 0, 0, 0, { 5, 15, 5 } },
+    { "two Ds of one automaton", "T\nP,1\nP,2\nM,1,0\nG,0\nE,0,1,0,0\nD,0,2\nD,0,1\n", 1, { 17, 19, 1 }, 4, 1, 0, 1, { 25, 27, 13 } },
+    { "a spare B", "T\nF\nM,2,0\nG,1\nE,0,1,0,1\nB,0,1\nM,1,0\nG,0\nE,0,1,0,0\nB,1,0\n", 1, { 9, 9, 9 }, 3, 1, 1, 1, { 9, 9, 13 } },
+    { "T under a spare automaton", "T\nP,1\nM,1,0\nG,0\nE,0,1,0,0\nD,0,1\nN,1\n", 0, { 8, 2, 8 }, ROW, 0, 0, 0, { 13, 7, 9 } },
+    { "W", "T\nP,1\nM,1,0\nG,0\nE,0,1,0,0\nD,0,1\n", 1, { 5, 7, 1 }, 2, 1, 0, 1, { 5, 7, 1 } },
+    { "X", "T\nF\nM,2,0\nG,1\nE,0,2,0,1\nB,0,1\n", 2, { 5, 1, 1 }, 2, 3, 3, 0, { 5, 1, 1 } },
+    { "Y", "T\nM,2,0\nG,1\nE,0,1,0,1\nD,0,0\n", 1, { 3, 3, 1 }, 1, 3, 0, 3, { 3, 3, 1 } },
+    { "an N on a D", BACK_D "N,2\n", 2, { 9, 7, 5 }, 2, 1, 0, 1, { 9, 7, 5 } },
+    { "an A on a D", BACK_D "A,1,2\n", 2, { 1, 15, 5 }, 2, 1, 0, 1, { 1, 15, 5 } },
+    { "an O on a D", BACK_D "O,2,1\n", 2, { 1, 15, 13 }, 2, 1, 0, 1, { 1, 15, 13 } },
+};
+
+/* A row with this at the number that counts, and else all bits set or none. */
+static void row_with(const struct spare *s, uint16_t others, uint16_t bits, uint16_t *into) {
+    for (int k = 0; k < ROW; k++) into[k] = others;
+    if (s->counts < ROW) into[s->counts] = (uint16_t)((others & ~s->bits) | bits);
+}
+
+/* One way of judging it: a refusal, or its words and row; a part without entries gives the row it got, ignored bits 0. */
+static void spare_part(const struct spare *s, const uint16_t *sheet, uint32_t way, int taken) {
+    enum { T = ROZSVELEN_TABLE };
+    static const uint32_t log[3] = { 1, 2, 4 };
+    uint16_t given[ROW], plain[ROW], next[ROW], got[ROW];
+    uint64_t judged[3] = { 7, 7, 7 };
+    row_with(s, 0xffff, s->before, given);
+    row_with(s, 0, s->before, plain);
+    row_with(s, 0, s->after, next);
+    memcpy(got, given, sizeof got);
+    check_of("a part without entries", s->name, rozsvelen_judge_part(sheet, T, way, got, ROW, NULL, 0, judged, 3) == (taken ? 0 : refused(34)));
+    check_of("the row of a part without entries", s->name, memcmp(got, taken ? plain : given, sizeof got) == 0 && judged[0] == 7);
+    memcpy(got, given, sizeof got);
+    check_of("a part", s->name, rozsvelen_judge_part(sheet, T, way, got, ROW, log, 3, judged, 3) == (taken ? 0 : refused(34)));
+    check_of("the row of a part", s->name, memcmp(got, taken ? next : given, sizeof got) == 0);
+    check_of("the words of a part", s->name, taken ? memcmp(judged, s->verdicts, sizeof judged) == 0 : judged[0] == 7 && judged[2] == 7);
+}
+
+/* Sheets with nodes that the rule does not stand on, and sheets without: which ways the rule looks, the plain row, parts both ways, and the log
+ * judged whole. */
+static void spare_nodes(void) {
+    enum { T = ROZSVELEN_TABLE };
+    static const uint32_t log[3] = { 1, 2, 4 };
+    for (const struct spare *s = spares; s < spares + sizeof spares / sizeof *spares; s++) {
+        uint16_t sheet[T], plain[ROW], got[ROW];
+        uint64_t judged[3];
+        table_of(s->sheet, sheet);
+        check_of("rule_looks", s->name, rozsvelen_rule_looks(sheet, T) == s->looks);
+        row_with(s, 0, s->before, plain);
+        check_of("plain_row", s->name, rozsvelen_plain_row(sheet, T, got, ROW) == 0 && memcmp(got, plain, sizeof got) == 0);
+        spare_part(s, sheet, ROZSVELEN_AHEAD, s->looks == 0 || s->looks == ROZSVELEN_AHEAD);
+        spare_part(s, sheet, ROZSVELEN_BACK, s->looks == 0 || s->looks == ROZSVELEN_BACK);
+        rozsvelen_judge(sheet, T, log, 3, judged, 3);
+        check_of("the words of the whole log", s->name, memcmp(judged, s->whole, sizeof judged) == 0);
+    }
+}
+
+/* Rules that look both ways: Z of document 01; by an edge that no walk comes to; by what an edge tests, that no walk comes to. */
+static void rules_both_ways(void) {
+    enum { T = ROZSVELEN_TABLE };
+    static const char *const sheets[] = {
+        "P,0\nP,1\nP,2\nN,0\nT\nM,1,0\nG,0\nE,0,2,3,0\nD,0,1\nN,2\nO,6,5\nM,1,0\nG,0\nE,0,1,4,0\nB,1,7\n",
+        "T\nP,1\nM,2,0\nG,0\nE,0,1,0,0\nE,1,2,0,1\nD,0,1\n",
+        BACK_D "M,2,0\nG,0\nE,0,1,0,0\nE,1,0,2,1\nD,1,1\n",
+    };
+    static const uint16_t zeros[T];
+    for (size_t i = 0; i < sizeof sheets / sizeof *sheets; i++) {
+        uint16_t sheet[T];
+        table_of(sheets[i], sheet);
+        check_of("rule_looks both ways", sheets[i], rozsvelen_rule_looks(sheet, T) == 3);
+        check_of("a part ahead", sheets[i], rozsvelen_judge_part(sheet, T, ROZSVELEN_AHEAD, row, ROW, words, 1, verdicts, 1) == refused(34));
+        check_of("a part back", sheets[i], rozsvelen_judge_part(sheet, T, ROZSVELEN_BACK, row, ROW, words, 1, verdicts, 1) == refused(34));
+    }
+    check("rule_looks of the table of zeros", rozsvelen_rule_looks(zeros, T) == refused(31));
+    check("rule_looks of a number less", rozsvelen_rule_looks(table, T - 1) == refused(31));
+}
+
 static int counted_is(const char *log, uint32_t *into, uint64_t wanted) {
     return rozsvelen_read_counted(text(log), strlen(log), into, 4) == wanted;
 }
@@ -309,6 +402,7 @@ int main(void) {
     takes("read_sheet", read_sheet, 0, 16);
     takes("profile", profile, 0, 8);
     takes("in_profile", in_profile, 1, 8);
+    takes("rule_looks", rule_looks, ROZSVELEN_AHEAD + ROZSVELEN_BACK, 8);
     takes("read_log", read_log, ROZSVELEN_ENTRIES, 1);
     takes("read_counted", read_counted, ROZSVELEN_ENTRIES + ((uint64_t)FIRST << 48), 1);
     check("read_counted, the words of the log without counters", memcmp(words, words_again, sizeof words) == 0);
@@ -331,6 +425,8 @@ int main(void) {
     profiles_made();
     profiles_refused();
     profiles_told();
+    spare_nodes();
+    rules_both_ways();
     counters_read();
     counters_refused();
     steps_and_entries();

@@ -1,6 +1,6 @@
 //! Calls of the static library on slices, and what their answers mean. Nothing else in this crate is unsafe.
 use crate::calls::*;
-use crate::{Refused, Way, ROW, TABLE};
+use crate::{Looks, Refused, Way, ROW, TABLE};
 
 /// An answer's number: a count or length in the low 16 bits, the refusal's number in the next 16, its line in the next 16.
 fn answer(code: u64) -> Result<usize, Refused> {
@@ -30,6 +30,11 @@ pub fn profile(table: &[u16; TABLE]) -> Result<[u16; TABLE], Refused> {
 pub fn is_in_profile(table: &[u16; TABLE]) -> Result<bool, Refused> {
     let count = answer(unsafe { rozsvelen_in_profile(table.as_ptr(), table.len()) })?;
     Ok(count == 1)
+}
+
+pub fn rule_looks(table: &[u16; TABLE]) -> Result<Looks, Refused> {
+    let ways = answer(unsafe { rozsvelen_rule_looks(table.as_ptr(), table.len()) })? as u32;
+    Ok(Looks { ahead: ways & AHEAD != 0, back: ways & BACK != 0 })
 }
 
 pub fn read_log(text: &[u8], words: &mut [u32]) -> Result<usize, Refused> {
@@ -86,8 +91,8 @@ pub fn plain_row(table: &[u16; TABLE]) -> Result<[u16; ROW], Refused> {
 pub fn judge_part(table: &[u16; TABLE], way: Way, row: &[u16; ROW], words: &[u32], verdicts: &mut [u64]) -> Result<[u16; ROW], Refused> {
     let mut next = *row;
     let way = match way {
-        Way::Ahead => 1,
-        Way::Back => 2,
+        Way::Ahead => AHEAD,
+        Way::Back => BACK,
     };
     answer(unsafe {
         rozsvelen_judge_part(

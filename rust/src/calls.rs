@@ -1,8 +1,13 @@
 //! The C functions of the static library, as `include/rozsvelen.h` has them. A slice is a pointer and how many elements it has.
+/// The ways of a part, and those that a rule looks: of one that looks both, their sum.
+pub const AHEAD: u32 = 1;
+pub const BACK: u32 = 2;
+
 extern "C" {
     pub fn rozsvelen_read_sheet(text: *const u8, text_len: usize, table: *mut u16, table_len: usize) -> u64;
     pub fn rozsvelen_profile(table: *const u16, table_len: usize, out: *mut u16, out_len: usize) -> u64;
     pub fn rozsvelen_in_profile(table: *const u16, table_len: usize) -> u64;
+    pub fn rozsvelen_rule_looks(table: *const u16, table_len: usize) -> u64;
     pub fn rozsvelen_read_log(text: *const u8, text_len: usize, words: *mut u32, words_len: usize) -> u64;
     pub fn rozsvelen_read_counted(text: *const u8, text_len: usize, words: *mut u32, words_len: usize) -> u64;
     pub fn rozsvelen_steps_between(earlier: u16, later: u16) -> u64;

@@ -58,13 +58,33 @@ impl fmt::Display for Refused {
 
 impl Error for Refused {}
 
-/// Which way a sheet looks, and so which way its logs may be cut.
+/// Which way the parts of a cut log are judged.
 #[derive(Clone, Copy, Debug, PartialEq, Eq)]
 pub enum Way {
-    /// No edge goes back: parts are judged from the last to the first.
+    /// From the last to the first: no edge that the rule stands on goes back.
     Ahead,
-    /// No edge goes ahead: parts are judged from the first to the last.
+    /// From the first to the last: no edge that the rule stands on goes ahead.
     Back,
+}
+
+/// Which ways a sheet's rule looks. The rule, the last node, stands on itself; on the nodes that a node it stands on names; and where that is a D
+/// or B, on each edge of its automaton, reached or not, and on the node that the edge tests. Other nodes and automata of the sheet are spare.
+#[derive(Clone, Copy, Debug, PartialEq, Eq)]
+pub struct Looks {
+    /// It stands on an edge that goes ahead.
+    pub ahead: bool,
+    /// It stands on an edge that goes back.
+    pub back: bool,
+}
+
+impl Looks {
+    /// Whether a log may be cut and its parts judged this way: whether the rule does not look the other way (question 34).
+    pub fn may_cut(self, way: Way) -> bool {
+        match way {
+            Way::Ahead => !self.back,
+            Way::Back => !self.ahead,
+        }
+    }
 }
 
 /// A rule sheet that was read.
@@ -138,6 +158,20 @@ impl Sheet {
     /// ```
     pub fn is_in_profile(&self) -> Result<bool, Refused> {
         boundary::is_in_profile(&self.table)
+    }
+
+    /// Which ways the rule looks, and so which way a log may be cut.
+    ///
+    /// ```
+    /// use rozsvelen::{Looks, Sheet, Way};
+    /// // the rule, node 3, goes ahead by automaton 0; automaton 1 goes back and is spare, for only node 2 uses it
+    /// let sheet = Sheet::read(b"T\nP,1\nM,1,0\nG,0\nE,0,1,0,0\nM,1,0\nG,0\nE,0,2,0,0\nD,1,1\nD,0,1\n").unwrap();
+    /// let looks = sheet.rule_looks().unwrap();
+    /// assert_eq!(looks, Looks { ahead: true, back: false });
+    /// assert!(looks.may_cut(Way::Ahead) && !looks.may_cut(Way::Back));
+    /// ```
+    pub fn rule_looks(&self) -> Result<Looks, Refused> {
+        boundary::rule_looks(&self.table)
     }
 }
 
@@ -273,19 +307,22 @@ pub fn judge_logs(sheet: &Sheet, words: &[u32], lengths: &[u16], verdicts: &mut 
     boundary::judge_logs(&sheet.table, words, lengths, verdicts, held)
 }
 
-/// The row at the end of a log (looking back, at its start): the first part of a run gets it. All bits of a B are set, all of a D clear.
+/// The row at the end of a log (looking back, at its start): the first part of a run gets it. All bits of a B that the rule stands on are set,
+/// all others clear.
 ///
 /// ```
 /// use rozsvelen::{plain_row, Sheet};
-/// // node 2 is a B over an automaton of one state
-/// let sheet = Sheet::read(b"T\nF\nM,1,0\nG,0\nE,0,1,0,0\nB,0,1\n").unwrap();
-/// assert_eq!(plain_row(&sheet).unwrap()[..4], [0, 0, 1, 0]);
+/// // nodes 2 and 3 are Bs over an automaton of one state; node 3 is the rule, node 2 is spare
+/// let sheet = Sheet::read(b"T\nF\nM,1,0\nG,0\nE,0,1,0,0\nB,0,1\nB,0,0\n").unwrap();
+/// assert_eq!(plain_row(&sheet).unwrap()[..5], [0, 0, 0, 1, 0]);
 /// ```
 pub fn plain_row(sheet: &Sheet) -> Result<[u16; ROW], Refused> {
     boundary::plain_row(&sheet.table)
 }
 
-/// Judges a part of a log, given the row of the entry just outside it, and gives the row for the next part.
+/// Judges a part of a log, given the row of the entry just outside it, and gives the row for the next part. Only the nodes that the rule stands on
+/// are judged: the verdict bits of the others are 0, and their bits of the row are ignored and given as 0. 34 where the rule looks the other way
+/// (`Sheet::rule_looks`).
 ///
 /// ```
 /// use rozsvelen::{judge_part, plain_row, Sheet, Way};

@@ -5,6 +5,8 @@ use rozsvelen::{Sheet, ENTRIES, PAGE, ROW, TABLE};
 #[path = "../src/calls.rs"]
 #[allow(dead_code)]
 mod calls;
+#[path = "boundary/spares.rs"]
+mod spares;
 
 use calls::*;
 
@@ -33,6 +35,10 @@ fn profile(table: &[u16], out: &mut [u16]) -> u64 {
 
 fn in_profile(table: &[u16]) -> u64 {
     unsafe { rozsvelen_in_profile(table.as_ptr(), table.len()) }
+}
+
+fn rule_looks(table: &[u16]) -> u64 {
+    unsafe { rozsvelen_rule_looks(table.as_ptr(), table.len()) }
 }
 
 fn read_log(text: &[u8], words: &mut [u32]) -> u64 {
@@ -336,6 +342,7 @@ fn numbers_that_are_no_tables_are_31() {
         let mut made = [3; TABLE];
         assert_eq!(profile(numbers, &mut made), refusal(31, 0));
         assert_eq!(in_profile(numbers), refusal(31, 0));
+        assert_eq!(rule_looks(numbers), refusal(31, 0));
         assert_eq!(judge(numbers, &[2], &mut verdicts), refusal(31, 0));
         assert_eq!(plain_row(numbers, &mut row), refusal(31, 0));
         assert_eq!(judge_part(numbers, 1, &mut row, &[2], &mut verdicts), refusal(31, 0));

@@ -27,12 +27,13 @@ impl Random {
     }
 }
 
-/// Which directions a sheet's edges may have.
+/// Which directions a sheet's edges may have: one, both, or in each automaton one of them.
 #[derive(Clone, Copy, PartialEq, Eq)]
 pub enum Looks {
     Ahead,
     Back,
     Both,
+    EachItsOwn,
 }
 
 struct Writer<'a> {
@@ -127,6 +128,14 @@ impl Writer<'_> {
     }
 
     fn automaton(&mut self, looks: Looks, most_states: usize) {
+        const AHEAD: [usize; 3] = [0, 1, 1];
+        const BACK: [usize; 3] = [0, 2, 2];
+        let directions = match looks {
+            Looks::Ahead => AHEAD,
+            Looks::Back => BACK,
+            Looks::Both => [0, 1, 2],
+            Looks::EachItsOwn => *self.random.pick(&[AHEAD, BACK]),
+        };
         let states = 1 + self.random.below(most_states);
         self.text += &format!("M,{states},{}\n", self.random.below(states));
         let mut touched = vec![false; states];
@@ -138,7 +147,7 @@ impl Writer<'_> {
             touched[from] = true;
             touched[to] = true;
             extra = extra.saturating_sub(1);
-            self.edge(looks, from, to);
+            self.edge(directions, from, to);
             let s = self.random.below(states);
             if self.random.one_in(3) && !accepting.contains(&s) {
                 accepting.push(s);
@@ -152,12 +161,8 @@ impl Writer<'_> {
         self.automata += 1;
     }
 
-    fn edge(&mut self, looks: Looks, from: usize, to: usize) {
-        let dir = match looks {
-            Looks::Ahead => *self.random.pick(&[0, 1, 1]),
-            Looks::Back => *self.random.pick(&[0, 2, 2]),
-            Looks::Both => self.random.below(3),
-        };
+    fn edge(&mut self, directions: [usize; 3], from: usize, to: usize) {
+        let dir = *self.random.pick(&directions);
         let test = if dir == 0 { self.random.below(self.nodes) } else { *self.random.pick(&self.plain) };
         self.text += &format!("E,{from},{dir},{test},{to}\n");
         self.edges += 1;

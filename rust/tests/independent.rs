@@ -9,13 +9,14 @@ mod generate;
 mod kinds;
 mod limits;
 
-use checker::meaning::Judged;
+use checker::meaning::{Judged, Row};
 use checker::sheets;
 use compare::counters::{compare_entry, compare_steps};
 use compare::judging::{compare_judging, compare_plain_row};
 use compare::lists::{compare_logs, Logs};
+use compare::looks::compare_looks;
 use compare::pages::compare_page;
-use compare::parts::{compare_part, compare_run, Part};
+use compare::parts::{compare_part, compare_run, Part, Run};
 use compare::profile::compare_profile;
 use compare::texts::{compare_counted, compare_log, compare_sheet};
 use compare::walks::compare_walk;
@@ -105,15 +106,14 @@ fn entries(random: &mut Random, most: usize) -> usize {
 }
 
 fn judge_case(random: &mut Random, kinds: &mut Kinds) {
-    let looks = *random.pick(&[Looks::Ahead, Looks::Back, Looks::Both]);
+    let (looks, kind) = *random.pick(&[
+        (Looks::Ahead, "judge: sheet looks ahead"),
+        (Looks::Back, "judge: sheet looks back"),
+        (Looks::Both, "judge: sheet looks both ways"),
+    ]);
     let table = Table::of(&sheet(random, looks));
     let entries = entries(random, 10);
     let accepted = judge_and_show(random, kinds, &table, entries);
-    let kind = match looks {
-        Looks::Ahead => "judge: sheet looks ahead",
-        Looks::Back => "judge: sheet looks back",
-        Looks::Both => "judge: sheet looks both ways",
-    };
     kinds.saw_if(accepted, kind);
 }
 
@@ -193,6 +193,8 @@ fn table_case(random: &mut Random, kinds: &mut Kinds) {
     let table = Table::from_numbers(numbers);
     let is_changed = numbers != read;
     compare_plain_row(kinds, &table);
+    let looks_given = compare_looks(kinds, &table).is_some();
+    kinds.saw_if(is_changed && looks_given, "rule_looks: changed table that some sheet gives");
     let words = log_of(random, 3);
     let judged = table.judged(&words);
     let accepted = compare_judging(kinds, &table, &words, &judged, words.len());
@@ -226,10 +228,14 @@ fn looks_only(ahead: bool) -> Looks {
 
 /// Judges a part beside a row of random numbers; whether it was accepted.
 fn part_of(random: &mut Random, kinds: &mut Kinds, table: &Table, ahead: bool) -> bool {
-    let row = std::array::from_fn(|_| random.next() as u16);
+    let row = any_row(random);
     let words = log_of(random, 6);
     let room = room_beside(random, words.len());
     compare_part(kinds, table, &Part { ahead, row, words: &words, room }).is_some()
+}
+
+fn any_row(random: &mut Random) -> Row {
+    std::array::from_fn(|_| random.next() as u16)
 }
 
 /// How many places to lend for so many words: now and then too few.
@@ -242,16 +248,41 @@ fn room_beside(random: &mut Random, words: usize) -> usize {
 }
 
 fn run_case(random: &mut Random, kinds: &mut Kinds) {
-    let entries: Vec<usize> = (0..1 + random.below(5)).map(|_| random.below(6)).collect();
-    run_of(random, kinds, &entries);
+    let entries = short_parts(random);
+    one_way_run(random, kinds, &entries);
 }
 
-/// A run over parts of so many entries, some of them lent too few places.
-fn run_of(random: &mut Random, kinds: &mut Kinds, entries: &[usize]) {
+/// How many entries each part of a run has.
+fn short_parts(random: &mut Random) -> Vec<usize> {
+    (0..1 + random.below(5)).map(|_| random.below(6)).collect()
+}
+
+/// A run over parts of so many entries, by a sheet all of whose edges go one way.
+fn one_way_run(random: &mut Random, kinds: &mut Kinds, entries: &[usize]) {
     let ahead = random.one_in(2);
     let table = Table::of(&sheet(random, looks_only(ahead)));
-    let parts: Vec<(Vec<u32>, usize)> = entries.iter().map(|n| (log(random, *n), room_beside(random, *n))).collect();
-    compare_run(kinds, &table, ahead, &parts);
+    let parts = parts_of(random, entries);
+    compare_run(kinds, &table, &Run { ahead, parts: &parts, ignored: [0; 64] });
+}
+
+/// Parts of so many entries, some of them lent too few places.
+fn parts_of(random: &mut Random, entries: &[usize]) -> Vec<(Vec<u32>, usize)> {
+    entries.iter().map(|n| (log(random, *n), room_beside(random, *n))).collect()
+}
+
+/// A sheet whose automata look each its own way, so that a spare one may look the other way than the rule. Its logs are cut both ways; runs are given
+/// rows with any bits in the ignored places.
+fn spare_case(random: &mut Random, kinds: &mut Kinds) {
+    let table = Table::of(&sheet(random, Looks::EachItsOwn));
+    compare_plain_row(kinds, &table);
+    compare_looks(kinds, &table);
+    for ahead in [true, false] {
+        if part_of(random, kinds, &table, ahead) {
+            let entries = short_parts(random);
+            let parts = parts_of(random, &entries);
+            compare_run(kinds, &table, &Run { ahead, parts: &parts, ignored: any_row(random) });
+        }
+    }
 }
 
 /// Many logs of one sheet in one call; the table, the lengths, the words and the places lent may each be other than they should.
@@ -304,14 +335,15 @@ fn main() {
     let from = |name: &str, default: u64| std::env::var(name).ok().and_then(|v| v.parse().ok()).unwrap_or(default);
     let (cases, seed) = (from("ROZSVELEN_CASES", 200_000), from("ROZSVELEN_SEED", 1));
     let mut random = Random(seed);
-    // lists of logs, counters, and profiles have numbers of their own, so that the other cases are the same with them and without them
+    // lists of logs, counters, profiles and spare automata have numbers of their own: the other cases are the same with them and without them
     let [mut random_logs, mut random_counters, mut random_profiles] = [!seed, seed ^ 1 << 63, !seed ^ 1 << 63].map(Random);
+    let mut random_spares = Random(seed ^ 1 << 62);
     let mut kinds = Kinds::default();
     limits::all(&mut kinds);
     for case in 0..cases {
         if case % 1000 == 0 {
             largest_case(&mut random, &mut kinds);
-            run_of(&mut random, &mut kinds, &[400, 0, 512]);
+            one_way_run(&mut random, &mut kinds, &[400, 0, 512]);
         }
         let one = match case % 9 {
             0 => sheet_case,
@@ -327,6 +359,7 @@ fn main() {
         match case % 9 {
             1 => counted_case(&mut random_counters, &mut kinds),
             4 => profile_case(&mut random_profiles, &mut kinds),
+            6 => spare_case(&mut random_spares, &mut kinds),
             8 => logs_case(&mut random_logs, &mut kinds),
             _ => (),
         }

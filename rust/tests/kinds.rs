@@ -3,10 +3,11 @@ use std::collections::BTreeMap;
 use std::fmt;
 
 /// Every call and the numbers by which it refuses; for the page, the numbers that stand on it.
-const REFUSALS: [(&str, &[u8]); 13] = [
+const REFUSALS: [(&str, &[u8]); 14] = [
     ("read_sheet", &[1, 2, 3, 4, 5, 6, 7, 8, 9, 10, 11]),
     ("profile", &[31, 42]),
     ("in_profile", &[31]),
+    ("rule_looks", &[31]),
     ("read_log", &[21, 22, 23, 24, 25, 26, 27]),
     ("read_counted", &[21, 22, 23, 24, 28, 29, 25, 26, 27]),
     ("entry_bearing", &[32, 30]),
@@ -19,7 +20,7 @@ const REFUSALS: [(&str, &[u8]); 13] = [
     ("page_in", &[44]),
 ];
 
-const OTHERS: [&str; 92] = [
+const OTHERS: [&str; 104] = [
     "read_sheet: read",
     "read_sheet: cut short within a line",
     "read_sheet: a byte above 127",
@@ -34,6 +35,11 @@ const OTHERS: [&str; 92] = [
     "profile: of a changed table that some sheet gives",
     "in_profile: yes",
     "in_profile: no",
+    "rule_looks: neither way",
+    "rule_looks: ahead",
+    "rule_looks: back",
+    "rule_looks: both ways",
+    "rule_looks: changed table that some sheet gives",
     "read_log: read",
     "read_log: cut short within a line",
     "read_log: a byte above 127",
@@ -85,6 +91,7 @@ const OTHERS: [&str; 92] = [
     "judge_logs: 33 of the verdicts",
     "judge_logs: 33 of the counts",
     "plain_row: given",
+    "plain_row: 0 at a spare B",
     "judge_part: ahead",
     "judge_part: back",
     "judge_part: no entry",
@@ -92,8 +99,14 @@ const OTHERS: [&str; 92] = [
     "judge_part: a row that no part gave",
     "judge_part: changed table that some sheet gives",
     "judge_part: places beyond the verdicts kept",
+    "judge_part: no spare node",
+    "judge_part: a spare node",
+    "judge_part: a spare B's bit given, and 0 in the next row",
+    "judge_part: the rule looks ahead, a spare automaton back",
+    "judge_part: the rule looks back, a spare automaton ahead",
     "run: a refused call among them",
     "run: equal to the whole log",
+    "run: ignored bits of the row set",
     "run: more than 512 entries",
     "walk: of no edge",
     "walk: up to 20 edges",

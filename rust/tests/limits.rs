@@ -1,8 +1,10 @@
-//! Sheets, profiles, logs, counters, lists of logs, pages and walks at the limits.
+//! Sheets, profiles, what rules stand on, logs, counters, lists of logs, pages and walks at the limits.
 use crate::compare::counters::{compare_entry, compare_steps};
 use crate::compare::judging::compare_judging;
 use crate::compare::lists::{compare_logs, Logs};
+use crate::compare::looks::compare_looks;
 use crate::compare::pages::compare_page;
+use crate::compare::parts::{compare_part, Part};
 use crate::compare::profile::compare_profile;
 use crate::compare::texts::{compare_counted, compare_log, compare_sheet};
 use crate::compare::walks::compare_walk;
@@ -17,6 +19,7 @@ const MODAL_STEP: &str = "T\nM,1,0\nE,0,0,0,0\nD,0,0\nM,1,0\nE,0,1,1,0\nT\n";
 pub fn all(kinds: &mut Kinds) {
     texts(kinds);
     profiles(kinds);
+    rules_that_look(kinds);
     counted_logs(kinds);
     counters(kinds);
     longest_walk(kinds);
@@ -59,6 +62,29 @@ fn profiles(kinds: &mut Kinds) {
     let mut last = Table::of("P,31\n");
     while let Some(made) = compare_profile(kinds, &last, &[0, 1 << 31]) {
         last = made;
+    }
+}
+
+/// The edge by which the rule looks is as far away as it may be: the last of 256; of the last of 16 automata; of a D under 61 N lines; of the
+/// first of 16 automata, where each of the others tests a D of the one before it.
+fn rules_that_look(kinds: &mut Kinds) {
+    let under: String = (2..63).map(|k| format!("N,{k}\n")).collect();
+    let behind: String = (1..16).map(|m| format!("M,1,0\nG,0\nE,0,0,{m},0\nD,{m},0\n")).collect();
+    let spare = "M,1,0\nE,0,1,0,0\n".repeat(15);
+    for dir in [1, 2] {
+        let one = format!("M,1,0\nG,0\nE,0,{dir},0,0\n");
+        for text in [
+            format!("T\nM,1,0\nG,0\n{}E,0,{dir},0,0\nD,0,0\n", "E,0,0,0,0\n".repeat(255)),
+            format!("T\n{spare}{one}D,15,0\n"),
+            format!("T\nT\n{one}D,0,0\n{under}"),
+            format!("T\n{one}D,0,0\n{behind}"),
+        ] {
+            let table = Table::of(&text);
+            compare_looks(kinds, &table);
+            for ahead in [true, false] {
+                compare_part(kinds, &table, &Part { ahead, row: [u16::MAX; 64], words: &[1, 0], room: 2 });
+            }
+        }
     }
 }
 

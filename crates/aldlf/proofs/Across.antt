@@ -6,7 +6,8 @@ use mathlib.Core.Bool.{Bool, true, false, _&&_, _||_}
 use lib.Dec.{eqb, ltb}
 use borrow.Author.Tests.{ltb-true}
 use Rattle.aldlf.specs.Sheet.{Sheet, Automaton, Dir, ahead, back, stay}
-use Rattle.aldlf.specs.Verdict.{anyBelow, land, along, round, within, configurations, reached}
+use Rattle.aldlf.specs.Stands.{anyBelow}
+use Rattle.aldlf.specs.Verdict.{land, along, round, within, configurations, reached}
 
 any-cong : (n : ℕ) (p q : ℕ → Bool) → ((c : ℕ) → c < n → p c ≡ q c) → anyBelow n p ≡ anyBelow n q
 any-cong zero p q f = refl

@@ -6,8 +6,8 @@ use mathlib.Core.Logic.{_⊎_, inl, inr, _↔_}
 use mathlib.Core.Bool.{Bool, true, false, not, _&&_, _||_, false≢true, Bool·not-not}
 use lib.Dec.{eqb, ltb}
 use borrow.Author.Tests.{eqb-true, eqb-false, ltb-true, ltb-false}
-use Rattle.aldlf.specs.Parts.{allBelow}
-use Rattle.aldlf.specs.Verdict.{anyBelow, facing}
+use Rattle.aldlf.specs.Stands.{anyBelow}
+use Rattle.aldlf.specs.Verdict.{facing}
 use Rattle.aldlf.specs.Outcomes.{one, countBelow}
 
 pub and-intro : {a b : Bool} → a ≡ true → b ≡ true → a && b ≡ true
@@ -83,14 +83,6 @@ any-elim (suc n) p q = go (or-cases (p n) (anyBelow n p) q) (any-elim n p)
     go : (p n ≡ true) ⊎ (anyBelow n p ≡ true) → (anyBelow n p ≡ true → (c : ℕ) × (c < n) × (p c ≡ true)) → (c : ℕ) × (c < suc n) × (p c ≡ true)
     go (inl e) rec = (n, omega arith, e)
     go (inr e) rec = let r : (c : ℕ) × (c < n) × (p c ≡ true) = rec e in (r .0, omega arith, r .2)
-
-pub all-elim : (n : ℕ) (p : ℕ → Bool) → allBelow n p ≡ true → (c : ℕ) → c < n → p c ≡ true
-all-elim zero p a c l = absurd (omega arith)
-all-elim (suc n) p a c l = go (bool-cases (eqb c n)) (all-elim n p (and-right (p n) (allBelow n p) a) c)
-  where
-    go : (eqb c n ≡ true) ⊎ (eqb c n ≡ false) → (c < n → p c ≡ true) → p c ≡ true
-    go (inl e) rec = subst (λ (y : ℕ). p y ≡ true) (sym (eqb-true c n e)) (and-left (p n) (allBelow n p) a)
-    go (inr e) rec = let ne : ¬ (c ≡ n) = eqb-false c n e in rec (omega arith)
 
 one-le : (b : Bool) → one b ≤ 1
 one-le true = omega arith

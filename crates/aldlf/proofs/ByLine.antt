@@ -1,10 +1,12 @@
 -- The verdict on a node of a whole log is what its line says of the verdicts, whatever place the line stands at.
-use Prim.Native.Nat.{ℕ, _+_, _≤_, _<_}
+use Prim.Native.Nat.{ℕ, _<_}
 use mathlib.Core.Path.{_≡_, refl, ap, ap₂, _∙_}
+use mathlib.Core.Logic.{_⊎_, inl, inr}
 use mathlib.Core.Bool.{Bool, true, false, not, _&&_, _||_}
 use mathlib.Core.List.{List}
 use lib.ListN.{length}
 use Rattle.aldlf.specs.Sheet.{Sheet, Line, T, F, P, N, A, O, D, B}
+use Rattle.aldlf.specs.Stands.{Tests, Names}
 use Rattle.aldlf.specs.Verdict.{facing, goal, modal, says, judge, plainLine, plain, verdict}
 use Rattle.aldlf.proofs.Laws.{judge-at, judge-below}
 use Rattle.aldlf.proofs.Across.{reached-cong}
@@ -13,20 +15,9 @@ use Rattle.aldlf.proofs.Across.{reached-cong}
 abbrev pub lineSays : Sheet → List ℕ → (ℕ → ℕ → Bool) → Line → ℕ → Bool
 lineSays S log h l i = says S log (λ k s. plainLine l) h 0 l i
 
--- The edges of automaton m test only nodes below k.
-abbrev pub Tests : Sheet → (k m : ℕ) → Type 0
-Tests S k m = (e : ℕ) → S .automaton m .first ≤ e → e < S .automaton m .first + S .automaton m .count → S .edge e .test < k
-
 -- A line names only nodes below k, and so do the edges of its automaton.
 abbrev pub Known : Sheet → ℕ → Line → Type 0
-Known S k T = Unit {0}
-Known S k F = Unit {0}
-Known S k (P f) = Unit {0}
-Known S k (N a) = a < k
-Known S k (A a b) = (a < k) × (b < k)
-Known S k (O a b) = (a < k) × (b < k)
-Known S k (D m a) = (a < k) × Tests S k m
-Known S k (B m a) = (a < k) × Tests S k m
+Known S k l = (x : ℕ) → Names S l x → x < k
 
 module _ (S : Sheet) (log : List ℕ) (k : ℕ) where
   abbrev v : ℕ → ℕ → Bool
@@ -38,23 +29,23 @@ module _ (S : Sheet) (log : List ℕ) (k : ℕ) where
   below : (a i : ℕ) → a < k → h a i ≡ v a i
   below a i l = judge-below S log (plain S) k a i l
 
-  modal-line : (want : Bool) (m a : ℕ) (b : Bool) → plainLine (S .line k) ≡ b → a < k → Tests S k m → (s i : ℕ) → i < length log
+  modal-line : (want : Bool) (m a : ℕ) (b : Bool) → plainLine (S .line k) ≡ b → ((x : ℕ) → (a ≡ x) ⊎ Tests S m x → x < k) → (s i : ℕ) → i < length log
       → modal S (length log) h (plain S) k want m a s i ≡ modal S (length log) v (λ k s. b) 0 want m a s i
-  modal-line want m a b e l t s i w = ap (facing want)
+  modal-line want m a b e on s i w = ap (facing want)
       (reached-cong S (length log) m h v (goal S h want m a) (goal S v want m a) (λ u. facing want (plain S k u)) (λ u. facing want b)
-      (λ c j lo hi _. below (S .edge c .test) j (t c lo hi))
-      (λ u j _. ap (λ (z : Bool). S .automaton m .accepts u && facing want z) (below a j l))
+      (λ c j lo hi _. below (S .edge c .test) j (on (S .edge c .test) (inr (c, (lo, hi), refl))))
+      (λ u j _. ap (λ (z : Bool). S .automaton m .accepts u && facing want z) (below a j (on a (inl refl))))
       (λ c _ _. ap (facing want) e) s i w)
 
   says-line : (l : Line) → S .line k ≡ l → Known S k l → (i : ℕ) → i < length log → says S log (plain S) h k l i ≡ lineSays S log v l i
   says-line T e w i b = refl
   says-line F e w i b = refl
   says-line (P f) e w i b = refl
-  says-line (N a) e w i b = ap not (below a i w)
-  says-line (A a c) e w i b = ap₂ _&&_ (below a i (w .0)) (below c i (w .1))
-  says-line (O a c) e w i b = ap₂ _||_ (below a i (w .0)) (below c i (w .1))
-  says-line (D m a) e w i b = modal-line true m a false (ap plainLine e) (w .0) (w .1) (S .automaton m .start) i b
-  says-line (B m a) e w i b = modal-line false m a true (ap plainLine e) (w .0) (w .1) (S .automaton m .start) i b
+  says-line (N a) e w i b = ap not (below a i (w a refl))
+  says-line (A a c) e w i b = ap₂ _&&_ (below a i (w a (inl refl))) (below c i (w c (inr refl)))
+  says-line (O a c) e w i b = ap₂ _||_ (below a i (w a (inl refl))) (below c i (w c (inr refl)))
+  says-line (D m a) e w i b = modal-line true m a false (ap plainLine e) w (S .automaton m .start) i b
+  says-line (B m a) e w i b = modal-line false m a true (ap plainLine e) w (S .automaton m .start) i b
 
   -- the verdict on node k, by its line alone
   pub verdict-line : (l : Line) → S .line k ≡ l → Known S k l → (i : ℕ) → i < length log → verdict S log k i ≡ lineSays S log v l i

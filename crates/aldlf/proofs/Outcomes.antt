@@ -91,12 +91,16 @@ module _ (given : Bool) (S : Sheet) (log buffer : List ℕ) where
     whole-word : (i : ℕ) → i < length log → getD (wholeOutcome given S log buffer .buffer) i 0 ≡ getD (logWords S log) i 0
     whole-word i l = ap (λ (b : List ℕ). getD b i 0) whole-buffer ∙ List·getD-append (logWords S log) (drop (length log) buffer) 0 i (omega (arith, words-length S (plain S) log))
 
+    -- bit k of word i is the verdict on node k at entry i
+    pub whole-bit : (i k : ℕ) → i < length log → k < S .nodes → bit (getD (wholeOutcome given S log buffer .buffer) i 0) k ≡ verdict S log k i
+    whole-bit i k l lk = ap (λ (w : ℕ). bit w k) (whole-word i l) ∙ words-bit S (plain S) log k i lk l
+
     -- DEMAND 2
     pub whole-right : 1 ≤ S .nodes → WholeRight S log buffer (wholeOutcome given S log buffer)
     whole-right some =
         record {
           verdicts = λ i k l lk. Iff·trans
-              (eq-iff (bit (getD (wholeOutcome given S log buffer .buffer) i 0) k) (verdict S log k i) (ap (λ (w : ℕ). bit w k) (whole-word i l) ∙ words-bit S (plain S) log k i lk l))
+              (eq-iff (bit (getD (wholeOutcome given S log buffer .buffer) i 0) k) (verdict S log k i) (whole-bit i k l lk))
               (verdict-iff S log k i l);
           unused = λ i k l lk. ap (λ (w : ℕ). bit w k) (whole-word i l) ∙ words-unused S (plain S) log k i lk l;
           counted =

@@ -6,6 +6,7 @@ use mathlib.Core.List.{List, [], _∷_, _++_}
 use lib.ListN.{length, replicate}
 use Rattle.aldlf.specs.Constants.{nodeLimit, automatonLimit, edgeLimit, letterT, letterF, letterP, letterN, letterO, letterD, letterB}
 use Rattle.aldlf.specs.Sheet.{sheetOf, noLine, noEdge, noAutomaton, bit}
+use Rattle.aldlf.specs.Stands.{ruleSheet}
 use Rattle.aldlf.specs.Outcomes.{one, bitsOf, plainRow, Whole, wholeOutcome, Part, partOutcome}
 use Rattle.aldlf.specs.Walks.{Shown, walkOutcome}
 use Rattle.aldlf.specs.declared.Table.{Table}
@@ -73,6 +74,11 @@ abbrev pub circle : ℕ → Table
 circle accepting =
     table (node letterT 0 0 ∷ node letterF 0 0 ∷ node letterB 0 1 ∷ node letterD 0 0 ∷ []) (automaton 1 0 accepting 0 1 2 ∷ []) (edge 0 0 0 0 ∷ [])
 
+-- A sheet with a spare automaton that looks back: `T` `P,1` `M,1,0` `G,0` `E,0,1,0,0` `M,1,0` `G,0` `E,0,2,0,0` `D,1,1` `D,0,1`. The rule, node 3, does not stand on node 2.
+abbrev pub spare : Table
+spare =
+    table (node letterT 0 0 ∷ node letterP 1 0 ∷ node letterD 1 1 ∷ node letterD 0 1 ∷ []) (automaton 1 0 1 0 1 2 ∷ automaton 1 0 1 1 1 2 ∷ []) (edge 0 1 0 0 ∷ edge 0 2 0 0 ∷ [])
+
 -- Jobs -------------------------------------------------------------------------------------------------------------------------
 
 -- A buffer as it is lent: n places and two more, all 9.
@@ -133,6 +139,10 @@ module _ (given : Table → Bool) where
   AllRight [] = Unit {0}
   AllRight (j ∷ js) = JobRight j × AllRight js
 
+-- The plain row of W, from which its parts start.
+abbrev startRow : Row
+startRow = plainRow (ruleSheet (sheetOf W))
+
 -- The row that a part of W gives.
 abbrev rowAfter : Row → List ℕ → Row
 rowAfter row words = partOf (λ t. true) W row words .row
@@ -155,8 +165,8 @@ jobs =
     ∷ walk Z (f0 ∷ f1 ∷ f2 ∷ f0 ∷ f2 ∷ []) 8 0 (1 ∷ 1 ∷ 1 ∷ 1 ∷ [])
     ∷ walk W (f0 ∷ f1 ∷ f2 ∷ []) 2 0 (0 ∷ [])
     ∷ refused W (f0 ∷ f1 ∷ f2 ∷ []) 2 2 39
-    ∷ part W (plainRow (sheetOf W)) (f2 ∷ []) 2 (0 ∷ []) false
-    ∷ part W (rowAfter (plainRow (sheetOf W)) (f2 ∷ [])) (f0 ∷ f1 ∷ []) 2 (1 ∷ 1 ∷ []) true
-    ∷ part W (plainRow (sheetOf W)) (f1 ∷ f2 ∷ []) 2 (1 ∷ 0 ∷ []) true
-    ∷ part W (rowAfter (plainRow (sheetOf W)) (f1 ∷ f2 ∷ [])) (f0 ∷ []) 2 (1 ∷ []) true
+    ∷ part W startRow (f2 ∷ []) 2 (0 ∷ []) false
+    ∷ part W (rowAfter startRow (f2 ∷ [])) (f0 ∷ f1 ∷ []) 2 (1 ∷ 1 ∷ []) true
+    ∷ part W startRow (f1 ∷ f2 ∷ []) 2 (1 ∷ 0 ∷ []) true
+    ∷ part W (rowAfter startRow (f1 ∷ f2 ∷ [])) (f0 ∷ []) 2 (1 ∷ []) true
     ∷ []

@@ -1,6 +1,7 @@
 pub mod Constants
 pub mod Sheet
 pub mod Meaning
+pub mod Stands
 pub mod Parts
 pub mod Verdict
 pub mod Outcomes

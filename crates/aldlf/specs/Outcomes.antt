@@ -9,6 +9,7 @@ use lib.ListN.{getD, length, drop, replicate}
 use Rattle.aldlf.specs.Constants.{nodeLimit, stateLimit, entryLimit}
 use Rattle.aldlf.specs.Sheet.{Sheet, bit}
 use Rattle.aldlf.specs.Meaning.{Holds}
+use Rattle.aldlf.specs.Stands.{ruleSheet}
 use Rattle.aldlf.specs.Parts.{Bits, counts, looksOnly}
 use Rattle.aldlf.specs.Verdict.{judge, verdict, rowOf, plain}
 use Rattle.aldlf.specs.declared.Row.{Row}
@@ -113,14 +114,14 @@ unfoldable pub partNumber : Bool → Way → Sheet → List ℕ → List ℕ →
 partNumber given w S words buffer =
     firstNo ((given, 31) ∷ (looksOnly w S, 34) ∷ (leb (length words) entryLimit, 32) ∷ (leb (length words) (length buffer), 33) ∷ [])
 
--- Judging a part: its words in the first places, the rest as lent, and its row; a refusal alters nothing.
+-- Judging a part, of the nodes that the rule stands on: its words in the first places, the rest as lent, and its row; a refusal alters nothing.
 unfoldable pub partOutcome : Bool → Way → Sheet → Row → List ℕ → List ℕ → Part
 partOutcome given w S row words buffer =
     elim (partNumber given w S words buffer) [
-      | zero ↦ record { number = 0; row = packRow (rowOf w S words (bitsOf row)); buffer = partWords S (bitsOf row) words ++ drop (length words) buffer }
+      | zero ↦ record { number = 0; row = packRow (rowOf w (ruleSheet S) words (bitsOf row)); buffer = partWords (ruleSheet S) (bitsOf row) words ++ drop (length words) buffer }
       | suc q ↦ record { number = suc q; row = noRow; buffer = buffer }
     ]
 
--- The plain row as it is handed over, ignored bits 0.
+-- The plain row of a sheet as it is handed over, ignored bits 0. Parts of a sheet S start from the plain row of `ruleSheet S`.
 abbrev pub plainRow : Sheet → Row
 plainRow S = packRow (λ k s. counts S (S .line k) s && plain S k s)

@@ -1,5 +1,5 @@
 -- Runs of part judgings, and what demand 3 says of every one of them.
-use Prim.Native.Nat.{ℕ, zero, suc, _^_, _≤_, _<_}
+use Prim.Native.Nat.{ℕ, zero, suc, _^_, _<_}
 use mathlib.Core.Path.{_≡_}
 use mathlib.Core.Logic.{_↔_}
 use mathlib.Core.Bool.{Bool, true, false}
@@ -8,6 +8,7 @@ use lib.ListN.{getD, length, take}
 use Rattle.aldlf.specs.Constants.{nodeLimit, stateLimit}
 use Rattle.aldlf.specs.Sheet.{Sheet, bit}
 use Rattle.aldlf.specs.Meaning.{Holds, HoldsFrom}
+use Rattle.aldlf.specs.Stands.{StandsOn}
 use Rattle.aldlf.specs.Parts.{counts, join, rowEntry}
 use Rattle.aldlf.specs.Verdict.{plain}
 use Rattle.aldlf.specs.Outcomes.{bitsOf, Part, partOutcome, wholeOutcome}
@@ -43,31 +44,32 @@ runFrom given w S st (c ∷ cs) = runFrom given w S (afterCall w st c (partOutco
 unfoldable pub run : Bool → Way → Sheet → Row → List Call → Stand
 run given w S row calls = runFrom given w S (record { row = row; answered = false; joined = []; verdicts = [] }) calls
 
--- The row is plain on the bits that count; the ignored ones may be anything.
+-- The row is plain on the bits that count, those of the nodes that the rule stands on; the ignored ones may be anything.
 abbrev pub IsPlain : Sheet → Row → Type 0
-IsPlain S row = (k s : ℕ) → counts S (S .line k) s ≡ true → bitsOf row k s ≡ plain S k s
+IsPlain S row = (k s : ℕ) → StandsOn S k → counts S (S .line k) s ≡ true → bitsOf row k s ≡ plain S k s
 
 -- What bit s of number k of a log's row says by Definition 4: of its first entry (looking back, its last); of no entry, the plain row's.
 abbrev pub RowSays : Way → Sheet → List ℕ → (k s : ℕ) → Type 0
 RowSays w S [] k s = (counts S (S .line k) s ≡ true) × (plain S k s ≡ true)
 RowSays w S (x ∷ xs) k s = (counts S (S .line k) s ≡ true) × HoldsFrom S (x ∷ xs) k s (rowEntry w (length (x ∷ xs)))
 
--- The row has 64 numbers of 16 bits, and they are the log's; so ignored bits are 0.
+-- The row has 64 numbers of 16 bits, and they are the log's on the nodes that the rule stands on; all other bits are 0.
 pub record RowOf (w : Way) (S : Sheet) (log : List ℕ) (row : Row) : Type 0 where
   pub numbers : length (row .bits) ≡ nodeLimit
   pub small : (k : ℕ) → getD (row .bits) k 0 < 2 ^ stateLimit
-  pub bits : (k s : ℕ) → k < nodeLimit → s < stateLimit → (bitsOf row k s ≡ true) ↔ RowSays w S log k s
+  pub bits : (k s : ℕ) → k < nodeLimit → s < stateLimit → (bitsOf row k s ≡ true) ↔ (StandsOn S k × RowSays w S log k s)
 
--- DEMAND 3, of where a run stands.
+-- DEMAND 3, of where a run stands, about the nodes that the rule stands on.
 pub record Right (given : Bool) (w : Way) (S : Sheet) (st : Stand) : Type 0 where
   -- one word per entry of the joined log
   pub entries : length (st .verdicts) ≡ length (st .joined)
-  -- bit k of word i is Definition 4's verdict on node k at entry i of the joined log
-  pub verdicts : (i k : ℕ) → i < length (st .joined) → k < S .nodes → (bit (getD (st .verdicts) i 0) k ≡ true) ↔ Holds S (st .joined) k i
-  -- unused bits are 0
-  pub unused : (i k : ℕ) → i < length (st .joined) → S .nodes ≤ k → bit (getD (st .verdicts) i 0) k ≡ false
+  -- bit k of word i is Definition 4's verdict on node k, one that the rule stands on, at entry i of the joined log
+  pub verdicts : (i k : ℕ) → i < length (st .joined) → StandsOn S k → (bit (getD (st .verdicts) i 0) k ≡ true) ↔ Holds S (st .joined) k i
+  -- all other bits are 0
+  pub others : (i k : ℕ) → i < length (st .joined) → ¬ (StandsOn S k) → bit (getD (st .verdicts) i 0) k ≡ false
   -- the row that the last accepted call returned is the joined log's
   pub row : st .answered ≡ true → RowOf w S (st .joined) (st .row)
-  -- judging the joined log whole gives the same verdicts, where that call accepts it
+  -- judging the joined log whole gives the same verdicts on these nodes, where that call accepts it
   pub whole : (buffer : List ℕ) → wholeOutcome given S (st .joined) buffer .number ≡ 0
-      → take (length (st .joined)) (wholeOutcome given S (st .joined) buffer .buffer) ≡ st .verdicts
+      → (i k : ℕ) → i < length (st .joined) → StandsOn S k
+      → bit (getD (wholeOutcome given S (st .joined) buffer .buffer) i 0) k ≡ bit (getD (st .verdicts) i 0) k

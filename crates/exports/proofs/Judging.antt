@@ -9,6 +9,7 @@ use lib.ListN.{length}
 use borrow.Author.Tests.{eq-eqb, ne-eqb, leb-true}
 use Rattle.aldlf.specs.Constants.{nodeLimit, entryLimit}
 use Rattle.aldlf.specs.Sheet.{Sheet, sheetOf}
+use Rattle.aldlf.specs.Stands.{ruleSheet}
 use Rattle.aldlf.specs.Outcomes.{Whole, wholeOutcome, partOutcome, plainRow, noRow}
 use Rattle.aldlf.specs.declared.Table.{Table}
 use Rattle.aldlf.specs.declared.Row.{Row}
@@ -56,8 +57,8 @@ module _ (table row : List ℕ) where
   plain-short a h e = short-is nodeLimit row (plainInto row (tableOf table)) a h e
 
   by-given : (t : Table) (given : Bool)
-      → cond given (outcome (accepted 0) (plainRow (sheetOf t) .bits)) (outcome (refusal 31) row)
-      ≡ plainEnds row (elim given [ true ↦ record { number = 0; row = plainRow (sheetOf t) } | false ↦ record { number = 31; row = noRow } ])
+      → cond given (outcome (accepted 0) (plainRow (ruleSheet (sheetOf t)) .bits)) (outcome (refusal 31) row)
+      ≡ plainEnds row (elim given [ true ↦ record { number = 0; row = plainRow (ruleSheet (sheetOf t)) } | false ↦ record { number = 31; row = noRow } ])
   by-given t true = refl
   by-given t false = refl
 

@@ -10,15 +10,17 @@ use lib.ListN.{length, drop}
 use borrow.Author.Tests.{eq-eqb, ne-eqb, eqb-true}
 use Rattle.aldlf.specs.Constants.{nodeLimit}
 use Rattle.aldlf.specs.Sheet.{Sheet, sheetOf}
+use Rattle.aldlf.specs.Stands.{ruleSheet}
 use Rattle.aldlf.specs.Outcomes.{bitsOf, packRow, noRow, partWords, Part, partNumber, partOutcome, plainRow}
 use Rattle.aldlf.specs.Verdict.{rowOf as partRow}
 use Rattle.aldlf.specs.Run.{Call, Stand, afterCall, runFrom, run, IsPlain, Right}
 use Rattle.aldlf.specs.declared.Row.{Row}
 use Rattle.aldlf.specs.declared.Way.{Way}
 use Rattle.aldlf.proofs.Bools.{bool-cases}
+use Rattle.aldlf.proofs.Runs.{plain-row-is-plain}
 use Rattle.sheet.specs.Given.{wellFormed}
 use Rattle.sheet.proofs.Facts.{table-facts}
-use Rattle.judge.proofs.GivenLaws.{plain-is-plain}
+use Rattle.sheet.proofs.Sound.{sound}
 use Rattle.judge.proofs.Demand.{demand-3}
 use Rattle.crossing.specs.Numbers.{tableOf, rowOf}
 use Rattle.exports.specs.Answers.{answerCode, accepted, refusal, Outcome, outcome}
@@ -128,23 +130,23 @@ module _ (table lent : List ℕ) where
   no-plain q e = omega (arith, e)
 
   plain-left : plainOutcome table lent .answer ≡ accepted 0
-      → (wellFormed (tableOf table) ≡ true) × (plainOutcome table lent .slice ≡ plainRow (sheetOf (tableOf table)) .bits)
+      → (wellFormed (tableOf table) ≡ true) × (plainOutcome table lent .slice ≡ plainRow (ruleSheet (sheetOf (tableOf table))) .bits)
   unfolding plainOutcome
   plain-left = go (eqb (length lent) nodeLimit) (wellFormed (tableOf table))
     where
       left : Bool → Bool → Outcome
-      left long given = cond long (cond given (outcome (accepted 0) (plainRow (sheetOf (tableOf table)) .bits)) (outcome (refusal 31) lent)) (outcome (refusal 35) lent)
+      left long given = cond long (cond given (outcome (accepted 0) (plainRow (ruleSheet (sheetOf (tableOf table))) .bits)) (outcome (refusal 31) lent)) (outcome (refusal 35) lent)
 
-      go : (long given : Bool) → left long given .answer ≡ accepted 0 → (given ≡ true) × (left long given .slice ≡ plainRow (sheetOf (tableOf table)) .bits)
+      go : (long given : Bool) → left long given .answer ≡ accepted 0 → (given ≡ true) × (left long given .slice ≡ plainRow (ruleSheet (sheetOf (tableOf table))) .bits)
       go true true e = (refl, refl)
       go true false e = absurd (no-plain 30 e)
       go false given e = absurd (no-plain 34 e)
 
   -- a run of calls that starts from it is the run of part judgings from the plain row
   pub run-from-plain-row : plainOutcome table lent .answer ≡ accepted 0 → (way : ℕ) → isWay way ≡ true → (calls : List Call)
-      → partsRun table way (plainOutcome table lent .slice) calls ≡ run (wellFormed (tableOf table)) (wayOf way) (sheetOf (tableOf table)) (plainRow (sheetOf (tableOf table))) calls
+      → partsRun table way (plainOutcome table lent .slice) calls ≡ run (wellFormed (tableOf table)) (wayOf way) (sheetOf (tableOf table)) (plainRow (ruleSheet (sheetOf (tableOf table)))) calls
   run-from-plain-row e way known calls =
-      ap (λ (row : List ℕ). partsRun table way row calls) (plain-left e .1) ∙ run-same table way known (plainRow (sheetOf (tableOf table)) .bits) refl calls
+      ap (λ (row : List ℕ). partsRun table way row calls) (plain-left e .1) ∙ run-same table way known (plainRow (ruleSheet (sheetOf (tableOf table))) .bits) refl calls
 
   -- DEMAND 3 of the calls for C and Rust, closed: no assumption on the table, the way or the calls
   pub boundary-demand-3-from-plain-row : plainOutcome table lent .answer ≡ accepted 0 → (way : ℕ) (calls : List Call)
@@ -152,4 +154,4 @@ module _ (table lent : List ℕ) where
   boundary-demand-3-from-plain-row e way calls =
       let t = tableOf table in
       let (given, left) = plain-left e in
-      boundary-demand-3 table way (plainOutcome table lent .slice) (subst (λ (row : List ℕ). IsPlain (sheetOf t) (rowOf row)) (sym left) (plain-is-plain t (table-facts t given))) calls
+      boundary-demand-3 table way (plainOutcome table lent .slice) (subst (λ (row : List ℕ). IsPlain (sheetOf t) (rowOf row)) (sym left) (plain-row-is-plain (sheetOf t) (sound t (table-facts t given)))) calls

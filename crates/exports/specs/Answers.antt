@@ -1,4 +1,4 @@
--- What the calls answer, as one number, and what they leave in a lent slice: reading a sheet, its profile, reading a log, steps between counters and the entry that bears one.
+-- What the calls answer, as one number, and what they leave in a lent slice: reading a sheet, its profile, the ways that its rule looks, reading a log, steps between counters and the entry that bears one.
 use Prim.Native.Nat.{ℕ, _+_, _*_}
 use mathlib.Core.Bool.{cond}
 use mathlib.Core.List.{List}
@@ -10,6 +10,7 @@ use Rattle.joblog.specs.Log.{LogOutcome, readOutcome}
 use Rattle.joblog.specs.Counted.{countedOutcome, Lookup}
 use Rattle.sheet.specs.Questions.{readSheet}
 use Rattle.profile.specs.Profile.{profileOutcome, profileCheck}
+use Rattle.stands.specs.Answers.{ruleLooksOf}
 use Rattle.crossing.specs.Numbers.{tableSize, tableNumbers, tableOf}
 
 -- bits 0 to 15 are the count, 16 to 31 the number of the question that got a no (0: accepted), 32 to 47 the line, 48 to 63 what a call gives besides (each says what; else 0)
@@ -50,6 +51,10 @@ profileMade table out = let a = profileOutcome (tableOf table) in ofLength table
 -- whether a lent table is in the profile: a yes counts 1
 unfoldable pub profileAsked : List ℕ → ℕ
 profileAsked table = let c = profileCheck (tableOf table) in answerCode (c .number) 0 (one (c .yes)) 0
+
+-- which ways a lent table's rule looks: ahead counts 1 and back 2, as the ways are numbered
+unfoldable pub looksAsked : List ℕ → ℕ
+looksAsked table = let a = ruleLooksOf (tableOf table) in answerCode (a .number) 0 (one (a .ahead) + 2 * one (a .back)) 0
 
 -- a log as read: its number, its line, and how many entries
 abbrev pub logged : LogOutcome → Outcome

@@ -6,6 +6,7 @@ use lib.Dec.{eqb}
 use lib.ListN.{length}
 use Rattle.aldlf.specs.Constants.{nodeLimit}
 use Rattle.aldlf.specs.Sheet.{sheetOf}
+use Rattle.aldlf.specs.Stands.{ruleSheet}
 use Rattle.aldlf.specs.Outcomes.{Whole, wholeOutcome, Part, partOutcome, plainRow}
 use Rattle.aldlf.specs.declared.Table.{Table}
 use Rattle.aldlf.specs.declared.Way.{Way}
@@ -21,9 +22,9 @@ judged w = outcome (answerCode (w .number) 0 (w .held) 0) (w .buffer)
 unfoldable pub judgeOutcome : (table log verdicts : List ℕ) → Outcome
 judgeOutcome table log verdicts = let t = tableOf table in judged (wholeOutcome (wellFormed t) (sheetOf t) log verdicts)
 
--- the plain row of a table that some sheet gives
+-- the plain row of a table that some sheet gives, of the nodes that its rule stands on
 abbrev pub plainInto : List ℕ → Table → Outcome
-plainInto row t = cond (wellFormed t) (outcome (accepted 0) (plainRow (sheetOf t) .bits)) (outcome (refusal 31) row)
+plainInto row t = cond (wellFormed t) (outcome (accepted 0) (plainRow (ruleSheet (sheetOf t)) .bits)) (outcome (refusal 31) row)
 
 unfoldable pub plainOutcome : (table row : List ℕ) → Outcome
 plainOutcome table row = ofLength nodeLimit row (plainInto row (tableOf table))

@@ -26,11 +26,12 @@ use judge::lent::plain_row_lent;
 use packing::places::PLACES;
 use profile::lent::is_in_profile_lent;
 use profile::lent::to_profile_lent;
+use stands::lent::rule_looks_lent;
 use walk::WalkAnswer;
 use walk::lent::walk_lent;
 ghost use mathlib.Core.Path.{_≡_};
 ghost use Prim.Native.Nat.{min};
-ghost use Rattle.exports.specs.Answers.{accepted, outcome, sheetOutcome, profileMade, profileAsked, logOutcome, countedLogOutcome, lookedUp};
+ghost use Rattle.exports.specs.Answers.{accepted, outcome, sheetOutcome, profileMade, profileAsked, looksAsked, logOutcome, countedLogOutcome, lookedUp};
 ghost use Rattle.joblog.specs.Counted.{stepsBetween, entryBearing};
 ghost use Rattle.exports.specs.Judging.{partEnds, judgeOutcome, plainOutcome, judgePartOutcome, isWay, wayOf};
 ghost use Rattle.exports.specs.Lists.{listEnds, judgeLogsOutcome};
@@ -87,6 +88,22 @@ pub extern "C" fn rozsvelen_in_profile(table: &[u16]) -> u64
     lend_table(table, &mut numbers);
     let asked = is_in_profile_lent(&numbers);
     code(asked.number, 0, one(asked.yes), 0)
+}
+
+// Which ways a table's rule looks: ahead counts 1 and back 2, as the ways are numbered.
+#[no_mangle]
+pub extern "C" fn rozsvelen_rule_looks(table: &[u16]) -> u64
+    ensures { λ r. ⌜ r ≡ looksAsked (now (table .entry)) ⌝ }
+{
+    let mut numbers = [0u32; PLACES];
+    lend_table(table, &mut numbers);
+    let looks = rule_looks_lent(&numbers);
+    code(
+        looks.number,
+        0,
+        one(looks.ahead) + 2 * one(looks.back),
+        0,
+    )
 }
 
 // Reads a log's text into words and counts its entries. A refusal alters nothing.

@@ -19,7 +19,7 @@ use Rattle.reach.specs.Marks.{at, EdgesFit}
 use Rattle.judge.specs.declared.nodes.Job.{Job}
 use Rattle.judge.specs.declared.nodes.NodeAnswer.{NodeAnswer}
 use Rattle.judge.specs.Nodes.{modalKind, saysNow, PlainFits, Added, ModalFits, ModalDone, Known, NodeDone, cutOf}
-use Rattle.judge.specs.Prepared.{Lent}
+use Rattle.sheet.specs.Facts.{Lent}
 use Rattle.judge.proofs.Slices.{edges-fit, slice-reached}
 use Rattle.judge.proofs.WordLaws.{plain-of, plain-bits, words-low, added-words, added-count}
 use Rattle.judge.proofs.RowLaws.{inner, row-form, plain-number}

@@ -21,7 +21,7 @@ use Rattle.reach.proofs.Shared.{filled-keep}
 use Rattle.judge.specs.declared.nodes.Job.{Job}
 use Rattle.judge.specs.declared.nodes.Have.{Have}
 use Rattle.judge.specs.Nodes.{modalKind, Known, Words, cutOf, Stepped, Kept, Ready}
-use Rattle.judge.specs.Prepared.{Lent}
+use Rattle.sheet.specs.Facts.{Lent}
 use Rattle.judge.proofs.Slices.{test-at}
 use Rattle.judge.proofs.KnownLaws.{size, at-cut}
 use Rattle.judge.proofs.WordLaws.{known}

@@ -8,17 +8,20 @@ use lib.Dec.{eqb}
 use lib.ListN.{getD, length, take, drop}
 use Rattle.aldlf.specs.Constants.{nodeLimit, automatonLimit, stateLimit, letterP, letterN, letterA, letterO, letterD, letterB}
 use Rattle.aldlf.specs.Sheet.{Sheet, Line, T, F, P, N, A, O, D, B, bit, sheetOf}
-use Rattle.aldlf.specs.Parts.{Bits, rowEntry}
-use Rattle.aldlf.specs.Verdict.{facing, judge, rowOf}
+use Rattle.aldlf.specs.Parts.{Bits, rowEntry, counts}
+use Rattle.aldlf.specs.Verdict.{facing, judge, rowOf, plain}
 use Rattle.aldlf.specs.Outcomes.{packBits, bitCount, bitsOf, packRow, partWords}
 use Rattle.aldlf.specs.declared.Table.{Table}
 use Rattle.aldlf.specs.declared.Row.{Row}
 use Rattle.aldlf.specs.declared.NodeLine.{NodeLine}
 use Rattle.aldlf.specs.declared.Automaton.{Automaton}
+use Rattle.aldlf.specs.declared.Way.{Way}
+use Rattle.aldlf.specs.declared.Way.the-variants.{Ahead, Back}
+use Rattle.stands.specs.declared.lent.Looks.{Looks}
 use Rattle.sheet.specs.Facts.{nodeAt, automatonAt}
 use Rattle.reach.specs.Marks.{at, pick, verdictIn, verdictAdded, Reaching}
 use Rattle.reach.specs.Columns as steps
-use Rattle.judge.specs.Prepared.{Lent}
+use Rattle.sheet.specs.Facts.{Lent}
 use Rattle.judge.specs.declared.core.Part.{Part}
 use Rattle.judge.specs.declared.core.CoreAnswer.{CoreAnswer}
 use Rattle.judge.specs.declared.nodes.Job.{Job}
@@ -150,3 +153,12 @@ pub record CorePut (t : Table) (p : Part) (log before after : List ℕ) (r : Cor
   pub words : List ℕ
   pub done : CoreDone t p log words r
   pub put : after ≡ words ++ drop (length log) before
+
+-- The row is plain on every bit that a row of the sheet has: whole logs are judged with such a row.
+abbrev pub AllPlain : Sheet → Row → Type 0
+AllPlain S row = (k s : ℕ) → counts S (S .line k) s ≡ true → bitsOf row k s ≡ plain S k s
+
+-- A log may be cut this way: the rule does not look the other way.
+abbrev pub mayCut : Looks → Way → Bool
+mayCut looks Ahead = not (looks .back)
+mayCut looks Back = not (looks .ahead)

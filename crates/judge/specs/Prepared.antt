@@ -1,4 +1,4 @@
--- A table lent as numbers, and prepared for many logs.
+-- A table lent as numbers and prepared for many logs.
 use mathlib.Core.Path.{_≡_}
 use Prim.Native.Nat.{ℕ}
 use mathlib.Core.List.{List}
@@ -6,13 +6,7 @@ use Rattle.aldlf.specs.Sheet.{sheetOf}
 use Rattle.aldlf.specs.Outcomes.{plainRow}
 use Rattle.aldlf.specs.declared.Table.{Table}
 use Rattle.aldlf.specs.declared.Row.{Row}
-use Rattle.packing.specs.Packed.{Packed}
-use Rattle.sheet.specs.Facts.{TableFacts}
-
--- A table that some sheet gives, lent as numbers, its edges first.
-pub record Lent (t : Table) (numbers : List ℕ) : Type 0 where
-  pub facts : TableFacts t
-  pub packed : Packed t numbers
+use Rattle.sheet.specs.Facts.{Lent}
 
 -- The table is lent as these numbers, and this is its plain row.
 pub record Prepared (t : Table) (plain : Row) (numbers : List ℕ) : Type 0 where

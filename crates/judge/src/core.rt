@@ -20,7 +20,7 @@ ghost use Rattle.aldlf.specs.Constants.{entryLimit};
 ghost use Rattle.aldlf.specs.declared.Table.{Table};
 ghost use Rattle.reach.specs.Marks.{at};
 ghost use Rattle.judge.specs.Nodes.{CoreDone, CorePut, modalKind};
-ghost use Rattle.judge.specs.Prepared.{Lent};
+ghost use Rattle.sheet.specs.Facts.{Lent};
 
 // A log of so many entries is judged in small scratch.
 const FEW: usize = 32;

@@ -9,6 +9,9 @@ use super::rows::end_row;
 use super::rows::no_row;
 use aldlf::Row;
 use aldlf::Way;
+use packing::places::PLACES;
+use stands::lent::rule_numbers;
+use stands::lent::rule_ways;
 ghost use mathlib.Core.Path.{_≡_};
 ghost use mathlib.Core.List.{_++_};
 ghost use Prim.Native.Nat.{_≤_};
@@ -16,12 +19,13 @@ ghost use lib.Dec.{eqb};
 ghost use lib.ListN.{length, drop};
 ghost use Rattle.aldlf.specs.Constants.{entryLimit};
 ghost use Rattle.aldlf.specs.Sheet.{sheetOf};
-ghost use Rattle.aldlf.specs.Outcomes.{logWords, heldIn, plainRow, wholeNumber, wholeOutcome, partOutcome};
+ghost use Rattle.aldlf.specs.Outcomes.{logWords, heldIn, plainRow, noRow, wholeNumber, wholeOutcome, partOutcome};
 ghost use Rattle.aldlf.specs.declared.Table.{Table};
 ghost use Rattle.packing.specs.Packed.{Packed};
 ghost use Rattle.sheet.specs.Given.{wellFormed};
 ghost use Rattle.judge.specs.Answers.{wholeOf, isHeld, partOf, plainAnswerOf};
-ghost use Rattle.judge.specs.Prepared.{Lent, Prepared};
+ghost use Rattle.sheet.specs.Facts.{Lent};
+ghost use Rattle.judge.specs.Prepared.{Prepared};
 
 // Judges a whole log, as `judge` does.
 pub fn judge_lent(numbers: &[u32], log: &[u32], verdicts: &mut [u64]) -> Judged
@@ -43,7 +47,7 @@ pub fn judge_lent(numbers: &[u32], log: &[u32], verdicts: &mut [u64]) -> Judged
     Judged::Held(a.held)
 }
 
-// Judges a part, as `judge_part` does.
+// Judges a part, as `judge_part` does: by the table in which every node that the rule does not stand on is false.
 pub fn part_lent(
     numbers: &[u32],
     way: Way,
@@ -54,16 +58,17 @@ pub fn part_lent(
     requires { ⌜ ((t : Table) × Packed t (now numbers)) ⌝ }
     ensures { λ r. ⌜ ((t : Table) → Packed t (now (numbers .entry)) → partOf r (now (verdicts .exit)) ≡ partOutcome (wellFormed t) way (sheetOf t) row (now (words .entry)) (now (verdicts .entry))) ⌝ }
 {
-    let n = words.len();
-    let q = part_question(numbers, way, n, verdicts.len());
+    if !sheet::is_given_packed(numbers) {
+        return refused_part(31);
+    }
+    let mut own = [0u32; PLACES];
+    rule_numbers(numbers, &mut own);
+    let q = part_question(rule_ways(&own), way, words.len(), verdicts.len());
     if q != 0 {
-        return PartAnswer {
-            number: q,
-            row: no_row(),
-        };
+        return refused_part(q);
     }
     let part = Part { way, row };
-    let a = judge_core(part, numbers, words, verdicts);
+    let a = judge_core(part, &own, words, verdicts);
     let out = a.row;
     PartAnswer {
         number: 0,
@@ -77,18 +82,27 @@ pub fn plain_row_lent(numbers: &[u32]) -> PartAnswer
     ensures { λ r. ⌜ ((t : Table) → Packed t (now (numbers .entry)) → r ≡ plainAnswerOf t) ⌝ }
 {
     if !sheet::is_given_packed(numbers) {
-        return PartAnswer {
-            number: 31,
-            row: no_row(),
-        };
+        return refused_part(31);
     }
+    let mut own = [0u32; PLACES];
+    rule_numbers(numbers, &mut own);
     PartAnswer {
         number: 0,
-        row: end_row(numbers),
+        row: end_row(&own),
     }
 }
 
-// The plain row of a table that some sheet gives.
+// What stands beside a refusal: a row all zeros.
+fn refused_part(number: u8) -> PartAnswer
+    ensures { λ r. ⌜ r ≡ record { number = number; row = noRow } ⌝ }
+{
+    PartAnswer {
+        number,
+        row: no_row(),
+    }
+}
+
+// The plain row of a table that some sheet gives, of all its nodes: a whole log is judged with it.
 pub fn plain_of(numbers: &[u32]) -> Row
     requires { ⌜ ((t : Table) × Lent t (now numbers)) ⌝ }
     ensures { λ r. ⌜ ((t : Table) → Lent t (now (numbers .entry)) → r ≡ plainRow (sheetOf t)) ⌝ }

@@ -8,6 +8,7 @@ use mathlib.Core.List.{List}
 use lib.ListN.{length}
 use borrow.Author.Tests.{not-true}
 use Rattle.aldlf.specs.Sheet.{Sheet, Line, Automaton, bit, dirOf, lineOf, sheetOf}
+use Rattle.aldlf.specs.Stands.{EdgeOf}
 use Rattle.aldlf.specs.Meaning.{Holds}
 use Rattle.aldlf.specs.Verdict.{reached, facing, goal, verdict}
 use Rattle.aldlf.specs.Outcomes.{heldIn}
@@ -17,12 +18,15 @@ use Rattle.aldlf.specs.declared.Table.{Table}
 use Rattle.aldlf.proofs.Bools.{not-intro, count-cong}
 use Rattle.aldlf.proofs.Plain.{verdict-iff}
 use Rattle.aldlf.proofs.Across.{SameEdge, reached-across}
-use Rattle.aldlf.proofs.ByLine.{lineSays, Known, Tests, verdict-line}
+use Rattle.aldlf.proofs.ByLine.{lineSays, Known, verdict-line}
 use Rattle.sheet.proofs.Grown.{node, auto}
+use Rattle.sheet.proofs.Decided.{wf-no}
+use Rattle.sheet.proofs.Facts.{table-facts}
+use Rattle.sheet.proofs.Sound.{names-earlier}
 use Rattle.profile.specs.Profile.{line, profileOf, profileNumber}
 use Rattle.profile.proofs.Doubled.{last-line, kept-automaton, kept-edge, Pair, pairT, pairF, pairP, pairN, pairA, pairO, pairD, pairB}
 use Rattle.profile.proofs.Given.{strong, Accepted, accepted-of, pair-at, profile-wf}
-use Rattle.profile.proofs.Known.{line-is, line-copied, tests-known, known-line}
+use Rattle.profile.proofs.Known.{line-is, line-copied, tests-known}
 
 not-and : (a b : Bool) → not a || not b ≡ not (a && b)
 not-and true b = refl
@@ -67,13 +71,10 @@ module _ (t : Table) (R : Accepted t) (log : List ℕ) where
 
   -- the verdict on an old and on a new node, by its line
   old : (k : ℕ) (l : Line) → k < n → S .line k ≡ l → (i : ℕ) → i < length log → v k i ≡ lineSays S log v l i
-  old k l h e i b = verdict-line S log k l e (subst (Known S k) e (known-line t (R .wf .grown) k (R .wf .grown .nodes k h))) i b
+  old k l h e i b = verdict-line S log k l e (subst (Known S k) e (names-earlier t (table-facts t (R .given)) k)) i b
 
   new : (j : ℕ) (l : Line) → j < 2 * n + 1 → S′ .line j ≡ l → (i : ℕ) → i < length log → v′ j i ≡ lineSays S′ log v′ l i
-  unfolding profileOf
-  new j l h e i b =
-      let g = profile-wf t R .grown in
-      verdict-line S′ log j l e (subst (Known S′ j) e (known-line (profileOf t) g j (g .nodes j h))) i b
+  new j l h e i b = verdict-line S′ log j l e (subst (Known S′ j) e (names-earlier (profileOf t) (table-facts (profileOf t) (wf-no (profileOf t) (profile-wf t R))) j)) i b
 
   -- a line that is repeated says the same
   copied : (j j′ : ℕ) → j < 2 * n + 1 → j′ < 2 * n + 1 → node (profileOf t) j ≡ node (profileOf t) j′ → (i : ℕ) → i < length log → v′ j i ≡ v′ j′ i
@@ -96,21 +97,21 @@ module _ (t : Table) (R : Accepted t) (log : List ℕ) where
     turned-at a i b h = rec a h (omega arith) i b .1
 
     -- the walks of m are the same ones: goals that agree are reached alike
-    walks : (m a a′ : ℕ) (want want′ : Bool) → Tests S k m → ((j : ℕ) → j < length log → facing want′ (v′ a′ j) ≡ facing want (v a j)) → (i : ℕ) → i < length log
+    walks : (m a a′ : ℕ) (want want′ : Bool) → ((e : ℕ) → EdgeOf S m e → S .edge e .test < k) → ((j : ℕ) → j < length log → facing want′ (v′ a′ j) ≡ facing want (v a j)) → (i : ℕ) → i < length log
         → reached S′ (length log) m v′ (goal S′ v′ want′ m a′) (λ u. false) (S′ .automaton m .start) i
         ≡ reached S (length log) m v (goal S v want m a) (λ u. false) (S .automaton m .start) i
     walks m a a′ want want′ ts goals i b =
         let e = automata-same t m in
         ap (λ (x : Automaton). reached S′ (length log) m v′ (goal S′ v′ want′ m a′) (λ u. false) (x .start) i) e
         ∙ reached-across S′ S (length log) m v′ v (goal S′ v′ want′ m a′) (goal S v want m a) (λ u. false) (λ u. false) e (edges-same t)
-        (λ c j lo hi w. ap (λ (z : ℕ). v′ z j) (edge-names t c) ∙ same-at (S .edge c .test) j w (ts c (rw (ap (λ (x : Automaton). x .first) e) at lo) (ends c hi)))
+        (λ c j lo hi w. ap (λ (z : ℕ). v′ z j) (edge-names t c) ∙ same-at (S .edge c .test) j w (ts c (rw (ap (λ (x : Automaton). x .first) e) at lo, ends c hi)))
         (λ u j w. ap₂ _&&_ (ap (λ (x : Automaton). x .accepts u) e) (goals j w))
         (λ c lo hi. refl) (S .automaton m .start) i b
       where
         ends : (c : ℕ) → c < S′ .automaton m .first + S′ .automaton m .count → c < S .automaton m .first + S .automaton m .count
         ends c h = subst (λ (x : Automaton). c < x .first + x .count) (automata-same t m) h
 
-    tests-of : (m : ℕ) → m < t .used .automata → auto t m .before ≤ k → Tests S k m
+    tests-of : (m : ℕ) → m < t .used .automata → auto t m .before ≤ k → (e : ℕ) → EdgeOf S m e → S .edge e .test < k
     tests-of m h b = tests-known t (R .wf .grown) k m h b
 
     module _ (i : ℕ) (b : i < length log) where

@@ -7,19 +7,18 @@ use native.Mathlib.Omega.{arith}
 use Rattle.aldlf.specs.declared.Table.{Table}
 use Rattle.sheet.specs.Given.{wellFormed}
 use Rattle.sheet.specs.Facts.{nodeAt, automatonAt, edgeAt, ModalFacts, NodeFacts, TableFacts}
-use Rattle.sheet.specs.Facts as letter
 use Rattle.sheet.proofs.Grown.{NodeOk, node, edge, okT, okF, okP, okN, okA, okO, okD, okB}
 use Rattle.sheet.proofs.Decided.{edges-end, wf-yes}
 
 node-facts : (t : Table) (k : ℕ) → NodeOk (t .used .automata) (t .automata) k (nodeAt t k) → NodeFacts t k
-node-facts t k (okT e p q) = record { letter = letter.isT e; fact< = λ h. absurd (omega arith); not< = λ h. absurd (omega arith); both< = λ h. ⊎-elim (λ d. absurd (omega arith)) (λ d. absurd (omega arith)) h; modal = λ h. ⊎-elim (λ d. absurd (omega arith)) (λ d. absurd (omega arith)) h }
-node-facts t k (okF e p q) = record { letter = letter.isF e; fact< = λ h. absurd (omega arith); not< = λ h. absurd (omega arith); both< = λ h. ⊎-elim (λ d. absurd (omega arith)) (λ d. absurd (omega arith)) h; modal = λ h. ⊎-elim (λ d. absurd (omega arith)) (λ d. absurd (omega arith)) h }
-node-facts t k (okP e p q) = record { letter = letter.isP e; fact< = λ h. p; not< = λ h. absurd (omega arith); both< = λ h. ⊎-elim (λ d. absurd (omega arith)) (λ d. absurd (omega arith)) h; modal = λ h. ⊎-elim (λ d. absurd (omega arith)) (λ d. absurd (omega arith)) h }
-node-facts t k (okN e p q) = record { letter = letter.isN e; fact< = λ h. absurd (omega arith); not< = λ h. p; both< = λ h. ⊎-elim (λ d. absurd (omega arith)) (λ d. absurd (omega arith)) h; modal = λ h. ⊎-elim (λ d. absurd (omega arith)) (λ d. absurd (omega arith)) h }
-node-facts t k (okA e p q) = record { letter = letter.isA e; fact< = λ h. absurd (omega arith); not< = λ h. absurd (omega arith); both< = λ h. (p, q); modal = λ h. ⊎-elim (λ d. absurd (omega arith)) (λ d. absurd (omega arith)) h }
-node-facts t k (okO e p q) = record { letter = letter.isO e; fact< = λ h. absurd (omega arith); not< = λ h. absurd (omega arith); both< = λ h. (p, q); modal = λ h. ⊎-elim (λ d. absurd (omega arith)) (λ d. absurd (omega arith)) h }
-node-facts t k (okD e p n q) = record { letter = letter.isD e; fact< = λ h. absurd (omega arith); not< = λ h. absurd (omega arith); both< = λ h. ⊎-elim (λ d. absurd (omega arith)) (λ d. absurd (omega arith)) h; modal = λ h. record { automaton< = p; before≤ = n; node< = q } }
-node-facts t k (okB e p n q) = record { letter = letter.isB e; fact< = λ h. absurd (omega arith); not< = λ h. absurd (omega arith); both< = λ h. ⊎-elim (λ d. absurd (omega arith)) (λ d. absurd (omega arith)) h; modal = λ h. record { automaton< = p; before≤ = n; node< = q } }
+node-facts t k (okT e p q) = record { fact< = λ h. absurd (omega arith); not< = λ h. absurd (omega arith); both< = λ h. ⊎-elim (λ d. absurd (omega arith)) (λ d. absurd (omega arith)) h; modal = λ h. ⊎-elim (λ d. absurd (omega arith)) (λ d. absurd (omega arith)) h }
+node-facts t k (okF e p q) = record { fact< = λ h. absurd (omega arith); not< = λ h. absurd (omega arith); both< = λ h. ⊎-elim (λ d. absurd (omega arith)) (λ d. absurd (omega arith)) h; modal = λ h. ⊎-elim (λ d. absurd (omega arith)) (λ d. absurd (omega arith)) h }
+node-facts t k (okP e p q) = record { fact< = λ h. p; not< = λ h. absurd (omega arith); both< = λ h. ⊎-elim (λ d. absurd (omega arith)) (λ d. absurd (omega arith)) h; modal = λ h. ⊎-elim (λ d. absurd (omega arith)) (λ d. absurd (omega arith)) h }
+node-facts t k (okN e p q) = record { fact< = λ h. absurd (omega arith); not< = λ h. p; both< = λ h. ⊎-elim (λ d. absurd (omega arith)) (λ d. absurd (omega arith)) h; modal = λ h. ⊎-elim (λ d. absurd (omega arith)) (λ d. absurd (omega arith)) h }
+node-facts t k (okA e p q) = record { fact< = λ h. absurd (omega arith); not< = λ h. absurd (omega arith); both< = λ h. (p, q); modal = λ h. ⊎-elim (λ d. absurd (omega arith)) (λ d. absurd (omega arith)) h }
+node-facts t k (okO e p q) = record { fact< = λ h. absurd (omega arith); not< = λ h. absurd (omega arith); both< = λ h. (p, q); modal = λ h. ⊎-elim (λ d. absurd (omega arith)) (λ d. absurd (omega arith)) h }
+node-facts t k (okD e p n q) = record { fact< = λ h. absurd (omega arith); not< = λ h. absurd (omega arith); both< = λ h. ⊎-elim (λ d. absurd (omega arith)) (λ d. absurd (omega arith)) h; modal = λ h. record { automaton< = p; before≤ = n; node< = q } }
+node-facts t k (okB e p n q) = record { fact< = λ h. absurd (omega arith); not< = λ h. absurd (omega arith); both< = λ h. ⊎-elim (λ d. absurd (omega arith)) (λ d. absurd (omega arith)) h; modal = λ h. record { automaton< = p; before≤ = n; node< = q } }
 
 -- what judging may rely on
 pub table-facts : (t : Table) → wellFormed t ≡ true → TableFacts t

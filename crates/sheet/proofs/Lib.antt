@@ -25,5 +25,6 @@ pub mod Peel
 pub mod Decided
 pub mod Question31
 pub mod Facts
+pub mod Sound
 pub mod Padded
 pub mod Worked

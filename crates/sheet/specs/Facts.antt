@@ -1,14 +1,16 @@
--- What judging may rely on in a table that some sheet gives: the record `TableFacts`. It defines nothing new; the theorem that gives it is in proofs/.
+-- What judging may rely on in a table that some sheet gives: the record `TableFacts`, and `Lent` of such a table's numbers. It defines nothing new; the theorem that gives the facts is in proofs/.
 use Prim.Native.Nat.{ℕ, _+_, _^_, _≤_, _<_}
 use mathlib.Core.Path.{_≡_}
 use mathlib.Core.Logic.{_⊎_}
+use mathlib.Core.List.{List}
 use lib.ListN.{length, getD}
-use Rattle.aldlf.specs.Constants.{nodeLimit, automatonLimit, stateLimit, edgeLimit, factLimit, letterT, letterF, letterP, letterN, letterA, letterO, letterD, letterB}
+use Rattle.aldlf.specs.Constants.{nodeLimit, automatonLimit, stateLimit, edgeLimit, factLimit, letterP, letterN, letterA, letterO, letterD, letterB}
 use Rattle.aldlf.specs.Sheet.{noLine, noEdge, noAutomaton}
 use Rattle.aldlf.specs.declared.NodeLine.{NodeLine}
 use Rattle.aldlf.specs.declared.Edge.{Edge}
 use Rattle.aldlf.specs.declared.Automaton.{Automaton}
 use Rattle.aldlf.specs.declared.Table.{Table}
+use Rattle.packing.specs.Packed.{Packed}
 
 -- The node line, the automaton and the edge at a number of a table.
 abbrev pub nodeAt : Table → ℕ → NodeLine
@@ -20,17 +22,6 @@ automatonAt t m = getD (t .automata) m noAutomaton
 abbrev pub edgeAt : Table → ℕ → Edge
 edgeAt t e = getD (t .edges) e noEdge
 
--- One of the eight letters of node lines.
-pub data NodeLetter (c : ℕ) : Type 0 where
-  isT : c ≡ letterT → NodeLetter c
-  isF : c ≡ letterF → NodeLetter c
-  isP : c ≡ letterP → NodeLetter c
-  isN : c ≡ letterN → NodeLetter c
-  isA : c ≡ letterA → NodeLetter c
-  isO : c ≡ letterO → NodeLetter c
-  isD : c ≡ letterD → NodeLetter c
-  isB : c ≡ letterB → NodeLetter c
-
 -- What a D or B line of node k names: an automaton whose M line stands above, and an earlier node.
 pub record ModalFacts (t : Table) (k : ℕ) : Type 0 where
   pub automaton< : nodeAt t k .a < t .used .automata
@@ -39,7 +30,6 @@ pub record ModalFacts (t : Table) (k : ℕ) : Type 0 where
 
 -- The line of node k.
 pub record NodeFacts (t : Table) (k : ℕ) : Type 0 where
-  pub letter : NodeLetter (nodeAt t k .kind)
   pub fact< : nodeAt t k .kind ≡ letterP → nodeAt t k .a < factLimit
   pub not< : nodeAt t k .kind ≡ letterN → nodeAt t k .a < k
   pub both< : (nodeAt t k .kind ≡ letterA) ⊎ (nodeAt t k .kind ≡ letterO) → (nodeAt t k .a < k) × (nodeAt t k .b < k)
@@ -76,3 +66,8 @@ pub record TableFacts (t : Table) : Type 0 where
   pub no-node : (k : ℕ) → t .used .nodes ≤ k → nodeAt t k ≡ noLine
   pub no-automaton : (m : ℕ) → t .used .automata ≤ m → automatonAt t m ≡ noAutomaton
   pub no-edge : (e : ℕ) → t .used .edges ≤ e → edgeAt t e ≡ noEdge
+
+-- A table that some sheet gives, lent as numbers.
+pub record Lent (t : Table) (numbers : List ℕ) : Type 0 where
+  pub facts : TableFacts t
+  pub packed : Packed t numbers

@@ -3,15 +3,15 @@ use Prim.Native.Nat.{ℕ, _+_, _*_, _%_, _≤_, _<_}
 use native.Mathlib.Omega.{arith}
 use mathlib.Core.Path.{_≡_, refl, sym, ap, ap₂, subst, _∙_}
 use mathlib.Core.Logic.{_⊎_, inl, inr}
-use mathlib.Core.Bool.{Bool, true, false, cond, _&&_, _||_, false≢true}
+use mathlib.Core.Bool.{Bool, true, false, _&&_, _||_}
 use mathlib.Core.List.{List, _++_}
 use mathlib.Core.Option.{Option, some}
 use borrow.Author.Tests.{le-leb, lt-leb, lt-ltb, le-ltb, leb-true, eqb-true}
 use lib.Arith.{digits-div, digits-mod}
 use lib.Dec.{eqb, leb, ltb}
 use lib.ListN.{length, drop}
-use Rattle.aldlf.specs.Constants.{letterF, letterP, letterN, letterA, letterO, letterD, letterB}
-use Rattle.aldlf.specs.Sheet.{Sheet, Line, T, F, P, N, A, O, D, B, byMode, sheetOf, lineOf, bit}
+use Rattle.aldlf.specs.Constants.{letterD, letterB}
+use Rattle.aldlf.specs.Sheet.{Sheet, Line, D, B, byMode, sheetOf, lineOf, bit}
 use Rattle.aldlf.specs.Verdict.{facing, goal, judge, plain}
 use Rattle.aldlf.specs.Walks.{walkBy, walkTo, walkOf, walkOutcome}
 use Rattle.aldlf.specs.Walks as walks
@@ -19,7 +19,8 @@ use Rattle.aldlf.specs.declared.Automaton.{Automaton}
 use Rattle.aldlf.specs.declared.Edge.{Edge}
 use Rattle.aldlf.specs.declared.NodeLine.{NodeLine}
 use Rattle.aldlf.specs.declared.Table.{Table}
-use Rattle.aldlf.proofs.Bools.{and-right, or-cases, bool-cases}
+use Rattle.aldlf.proofs.Bools.{and-right, bool-cases}
+use Rattle.aldlf.proofs.Letters.{by-letter, either-letter, neither-letter}
 use Rattle.aldlf.proofs.Laws.{judge-below}
 use Rattle.aldlf.proofs.Packing.{words-length, words-bit}
 use Rattle.aldlf.proofs.Short.{found}
@@ -105,25 +106,12 @@ walk-modal S log k i true m a = refl
 walk-modal S log k i false m a = refl
 
 -- a line of another letter is no D and no B
-other-line : (f p n c o d b : Bool) (a e : ℕ) → d ≡ false → b ≡ false
-    → byMode (λ m a. true) (λ m a. true) false (cond f F (cond p (P a) (cond n (N a) (cond c (A a e) (cond o (O a e) (cond d (D a e) (cond b (B a e) T))))))) ≡ false
-other-line true p n c o d b a e x y = refl
-other-line false true n c o d b a e x y = refl
-other-line false false true c o d b a e x y = refl
-other-line false false false true o d b a e x y = refl
-other-line false false false false true d b a e x y = refl
-other-line false false false false false d b a e x y = rw (x, y)
-
 pub not-modal : (t : Table) (k : ℕ) → modalOf (nodeAt t k) ≡ false → byMode (λ m a. true) (λ m a. true) false (sheetOf t .line k) ≡ false
 unfolding sheetOf
 not-modal t k e =
     let x = nodeAt t k in
-    let (d, b) = or-false (eqb (x .kind) letterD) (eqb (x .kind) letterB) e in
-    other-line (eqb (x .kind) letterF) (eqb (x .kind) letterP) (eqb (x .kind) letterN) (eqb (x .kind) letterA) (eqb (x .kind) letterO) (eqb (x .kind) letterD) (eqb (x .kind) letterB) (x .a) (x .b) d b
-  where
-    or-false : (a b : Bool) → a || b ≡ false → (a ≡ false) × (b ≡ false)
-    or-false true b p = absurd (false≢true (sym p))
-    or-false false b p = (refl, p)
+    let none = neither-letter (x .kind) letterD letterB e in
+    by-letter (λ l. byMode (λ m a. true) (λ m a. true) false l ≡ false) (x .kind) (x .a) (x .b) refl (λ _. refl) (λ _. refl) (λ _. refl) (λ _. refl) (λ _. refl) (λ d. absurd (none .0 d)) (λ b. absurd (none .1 b))
 
 -- the log of the words
 module _ (t : Table) (words log : List ℕ) (W : JudgedLog t words log) where
@@ -304,8 +292,4 @@ module _ (t : Table) (log : List ℕ) (k i : ℕ) (facts : TableFacts t) (lk : k
 
   -- a D or B line is ready
   pub modal-ready : modalOf line ≡ true → (n : ℕ) → n ≤ 512 → i < n → LineReady t line n i
-  modal-ready e n few li = line-ready (facts .node k lk .modal (cases (or-cases (eqb (line .kind) letterD) (eqb (line .kind) letterB) e))) n few li
-    where
-      cases : (eqb (line .kind) letterD ≡ true) ⊎ (eqb (line .kind) letterB ≡ true) → (line .kind ≡ letterD) ⊎ (line .kind ≡ letterB)
-      cases (inl d) = inl (eqb-true (line .kind) letterD d)
-      cases (inr b) = inr (eqb-true (line .kind) letterB b)
+  modal-ready e n few li = line-ready (facts .node k lk .modal (either-letter (line .kind) letterD letterB e)) n few li

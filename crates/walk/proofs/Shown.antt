@@ -22,7 +22,7 @@ use Rattle.aldlf.proofs.Packing.{words-bit}
 use Rattle.aldlf.proofs.Shortest.{walk-iff, best-short, shown-iff}
 use Rattle.sheet.specs.Given.{wellFormed}
 use Rattle.sheet.proofs.Facts.{table-facts}
-use Rattle.judge.proofs.GivenLaws.{sound}
+use Rattle.sheet.proofs.Sound.{sound}
 use Rattle.graph.specs.Graph.{at}
 use Rattle.walk.proofs.Questions.{shownBy, byRoom, outcome-0, outcome-38, outcome-40, outcome-walk}
 

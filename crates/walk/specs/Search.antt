@@ -13,7 +13,7 @@ use Rattle.aldlf.specs.declared.Automaton.{Automaton}
 use Rattle.aldlf.specs.declared.Entry.{Entry}
 use Rattle.aldlf.specs.declared.NodeLine.{NodeLine}
 use Rattle.aldlf.specs.declared.Table.{Table}
-use Rattle.judge.specs.Prepared.{Lent}
+use Rattle.sheet.specs.Facts.{Lent}
 use Rattle.graph.specs.Graph.{Graph, far, at}
 use Rattle.graph.specs.Arcs.{Chained}
 use Rattle.graph.specs.Configurations.{graphOf, startOf, EdgeFits, Ready}

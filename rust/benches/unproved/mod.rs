@@ -52,10 +52,32 @@ pub fn plain_node(x: Node, k: usize, log: &[u32], words: &mut [u64]) {
     }
 }
 
-/// Question 34, of a table that some sheet gives. All edges are looked at: an early exit would keep it at one edge a turn.
-pub fn looks_only(t: &[u16; TABLE], ahead: bool) -> bool {
+/// The nodes that a line names, those that its automaton's edges test among them.
+fn named(t: &[u16; TABLE], k: usize) -> u64 {
+    let x = node(t, k);
+    match x.letter {
+        b'T' | b'F' | b'P' => 0,
+        b'N' => 1 << x.a,
+        b'A' | b'O' => 1 << x.a | 1 << x.b,
+        _ => automaton(t, x.a as usize).edges.chunks_exact(4).fold(1 << x.b, |tested, e| tested | 1 << (e[2] & 63)),
+    }
+}
+
+/// The nodes below node k that it stands on.
+pub fn stands_on(t: &[u16; TABLE], k: usize) -> u64 {
+    (0..k).rev().fold(named(t, k), |all, j| if all >> j & 1 == 1 { all | named(t, j) } else { all })
+}
+
+/// The nodes that are judged in a part, of a table that some sheet gives: the rule and those that it stands on; none where question 34 gets a no.
+/// All edges of an automaton are looked at: an early exit would keep it at one edge a turn.
+pub fn part_nodes(t: &[u16; TABLE], ahead: bool) -> Option<u64> {
     let wrong = if ahead { 2 } else { 1 };
-    t[288..288 + 4 * t[1314] as usize].chunks_exact(4).fold(true, |fits, e| fits & (e[1] != wrong))
+    let rule = t[1312] as usize - 1;
+    let nodes = 1 << rule | stands_on(t, rule);
+    let lines = (0..=rule).filter(|k| nodes >> k & 1 == 1).map(|k| node(t, k));
+    let automata = lines.filter(|x| [b'D', b'B'].contains(&x.letter)).fold(0u16, |all, x| all | 1 << x.a);
+    let fits = |m: usize| automaton(t, m).edges.chunks_exact(4).fold(true, |fits, e| fits & (e[1] != wrong));
+    (0..16).filter(|m| automata >> m & 1 == 1).all(fits).then_some(nodes)
 }
 
 /// Question 32 of a list of logs.

@@ -1,7 +1,7 @@
 //! Judging by step masks: a mask of states for each entry. For each automaton and each *kind* of entry (entries alike on the tested nodes) the edges
 //! become once two matrices of 16 masks, test edges closed in beforehand; then marking an entry from those beside it is a matrix times a mask.
 use super::given::given;
-use super::{automaton, filled, logs_fit, looks_only, node, plain_node, room, Automaton, Row, TABLE};
+use super::{automaton, filled, logs_fit, node, part_nodes, plain_node, room, Automaton, Row, TABLE};
 use std::arch::x86_64::{_mm_and_si128, _mm_cmpeq_epi16, _mm_loadu_si128, _mm_movemask_epi8, _mm_packs_epi16, _mm_set1_epi16, _mm_setzero_si128};
 use std::mem::MaybeUninit;
 
@@ -159,7 +159,7 @@ pub fn judge(t: &[u16; TABLE], log: &[u32], verdicts: &mut [u64]) -> Option<usiz
     if !given(t) || log.is_empty() || log.len() > 512 || verdicts.len() < log.len() {
         return None;
     }
-    Some(judge_given(t, log, verdicts, None).0)
+    Some(judge_given(t, log, verdicts, u64::MAX, None).0)
 }
 
 /// Many logs of one sheet: their words one after the other, and how many each has. The verdicts and the counts, where there is no refusal.
@@ -170,7 +170,7 @@ pub fn logs(t: &[u16; TABLE], words: &[u32], lengths: &[u16], verdicts: &mut [u6
     let mut at = 0;
     for (n, held) in lengths.iter().zip(held) {
         let n = *n as usize;
-        *held = judge_given(t, &words[at..at + n], &mut verdicts[at..at + n], None).0 as u16;
+        *held = judge_given(t, &words[at..at + n], &mut verdicts[at..at + n], u64::MAX, None).0 as u16;
         at += n;
     }
     Some(())
@@ -178,14 +178,18 @@ pub fn logs(t: &[u16; TABLE], words: &[u32], lengths: &[u16], verdicts: &mut [u6
 
 /// A part, given the row of the entry beside it; the row that it gives.
 pub fn part(t: &[u16; TABLE], log: &[u32], verdicts: &mut [u64], row: &Row, ahead: bool) -> Option<Row> {
-    if !given(t) || !looks_only(t, ahead) || log.len() > 512 || verdicts.len() < log.len() {
+    if !given(t) {
         return None;
     }
-    Some(judge_given(t, log, verdicts, Some((row, ahead))).1)
+    let wanted = part_nodes(t, ahead)?;
+    if log.len() > 512 || verdicts.len() < log.len() {
+        return None;
+    }
+    Some(judge_given(t, log, verdicts, wanted, Some((row, ahead))).1)
 }
 
-/// With a table that was checked: the count held, and the row of a part.
-fn judge_given(t: &[u16; TABLE], log: &[u32], verdicts: &mut [u64], row: Option<(&Row, bool)>) -> (usize, Row) {
+/// The wanted nodes, with a table that was checked: the count held, and the row of a part.
+fn judge_given(t: &[u16; TABLE], log: &[u32], verdicts: &mut [u64], wanted: u64, row: Option<(&Row, bool)>) -> (usize, Row) {
     let words = &mut verdicts[..log.len()];
     let mut known = Known { automaton: usize::MAX, looks: [false; 3], kind: room(), kinds: room(), count: 0 };
     let mut masks = room::<u16, 512>();
@@ -193,7 +197,7 @@ fn judge_given(t: &[u16; TABLE], log: &[u32], verdicts: &mut [u64], row: Option<
     let mut next = [0; 64];
     let nodes = t[1312] as usize;
     words.fill(0);
-    for k in 0..nodes {
+    for k in (0..nodes).filter(|k| wanted >> k & 1 == 1) {
         let x = node(t, k);
         if x.letter != b'D' && x.letter != b'B' {
             plain_node(x, k, log, words);

@@ -2,7 +2,7 @@
 //! enter a state until the start is met, and forward by the lowest edge that comes one nearer.
 use super::bitsets::Judging;
 use super::given::given;
-use super::{automaton, filled, node, room, TABLE};
+use super::{automaton, filled, node, room, stands_on, TABLE};
 use std::mem::MaybeUninit;
 
 pub fn walk(t: &[u16; TABLE], log: &[u32], k: usize, i: usize, edges: &mut [u16]) -> Option<usize> {
@@ -15,22 +15,6 @@ pub fn walk(t: &[u16; TABLE], log: &[u32], k: usize, i: usize, edges: &mut [u16]
     } else {
         search::<8>(t, log, k, i, edges)
     }
-}
-
-/// The nodes that a line names, those that its automaton's edges test among them.
-fn named(t: &[u16; TABLE], k: usize) -> u64 {
-    let x = node(t, k);
-    match x.letter {
-        b'T' | b'F' | b'P' => 0,
-        b'N' => 1 << x.a,
-        b'A' | b'O' => 1 << x.a | 1 << x.b,
-        _ => automaton(t, x.a as usize).edges.chunks_exact(4).fold(1 << x.b, |tested, e| tested | 1 << (e[2] & 63)),
-    }
-}
-
-/// The nodes that node k stands on.
-fn stands_on(t: &[u16; TABLE], k: usize) -> u64 {
-    (0..k).rev().fold(named(t, k), |all, j| if all >> j & 1 == 1 { all | named(t, j) } else { all })
 }
 
 /// Edges by a state: those of state s at `first[s]..first[s + 1]`, in their order.

@@ -13,7 +13,7 @@ pub struct Judged<'a> {
     row: Row,
 }
 
-/// The plain row: all bits of a B set, all of a D clear; ignored bits 0.
+/// The row beside a whole log: all bits of a B set, all of a D clear, whether the rule stands on them or not.
 pub fn plain(sheet: &Sheet) -> Row {
     let mut row = [0; 64];
     for (k, line) in sheet.nodes.iter().enumerate() {
@@ -24,7 +24,8 @@ pub fn plain(sheet: &Sheet) -> Row {
     row
 }
 
-fn mask(states: usize) -> u16 {
+/// A bit for each of so many states.
+pub fn mask(states: usize) -> u16 {
     ((1u32 << states) - 1) as u16
 }
 
@@ -123,7 +124,7 @@ impl<'a> Judged<'a> {
         self.holds.last().unwrap().iter().filter(|h| **h).count()
     }
 
-    /// The row that the part gives.
+    /// The row that the part gives, for all nodes.
     pub fn next_row(&self, ahead: bool) -> Row {
         let mut row = [0; 64];
         for (k, line) in self.sheet.nodes.iter().enumerate() {

@@ -188,8 +188,9 @@ impl Sheet {
         t
     }
 
-    pub fn looks_only(&self, ahead: bool) -> bool {
-        self.edges.iter().all(|e| e.dir != if ahead { 2 } else { 1 })
+    /// Whether an edge of automaton m has this direction.
+    pub fn goes(&self, m: usize, dir: usize) -> bool {
+        self.automata[m].edges.iter().any(|e| self.edges[*e].dir == dir)
     }
 }
 

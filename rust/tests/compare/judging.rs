@@ -1,7 +1,8 @@
 //! Whole logs judged, and plain rows.
 use super::{no, Table};
 use crate::checker::meaning::{plain, Judged};
-use crate::checker::sheets::Line;
+use crate::checker::sheets::{Line, Sheet};
+use crate::checker::stands::Stands;
 use crate::kinds::Kinds;
 
 /// Judges a log; whether it was accepted.
@@ -40,10 +41,14 @@ fn kinds_of_verdicts(kinds: &mut Kinds, judged: &Judged) {
 }
 
 pub fn compare_plain_row(kinds: &mut Kinds, table: &Table) {
-    let theirs = table.sheet().map(plain).map_err(|q| (q, 0));
+    let of_rule = |sheet: &Sheet| Stands::of_rule(sheet).row(plain(sheet));
+    let theirs = table.sheet().map(of_rule).map_err(|q| (q, 0));
     assert_eq!(rozsvelen::plain_row(&table.ours).map_err(no), theirs, "plain row, {:?}", table.theirs);
     match theirs {
-        Ok(_) => kinds.saw("plain_row: given"),
+        Ok(row) => {
+            kinds.saw("plain_row: given");
+            kinds.saw_if(row != plain(table.sheet().unwrap()), "plain_row: 0 at a spare B");
+        }
         Err((q, _)) => kinds.refused("plain_row", q),
     }
 }

@@ -2,6 +2,7 @@
 pub mod counters;
 pub mod judging;
 pub mod lists;
+pub mod looks;
 pub mod pages;
 pub mod parts;
 pub mod profile;

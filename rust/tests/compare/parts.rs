@@ -1,7 +1,8 @@
 //! Parts judged, and runs of them.
 use super::{no, Table};
 use crate::checker::meaning::{plain, Judged, Row};
-use crate::checker::sheets::Sheet;
+use crate::checker::sheets::Line;
+use crate::checker::stands::Stands;
 use crate::kinds::Kinds;
 use rozsvelen::Way;
 
@@ -14,16 +15,17 @@ pub struct Part<'a> {
 }
 
 impl Part<'_> {
-    fn questions<'a>(&self, table: &'a Table) -> Result<&'a Sheet, u8> {
-        let sheet = table.sheet()?;
-        if !sheet.looks_only(self.ahead) {
+    /// What the rule stands on, where the part is accepted.
+    fn questions<'a>(&self, table: &'a Table) -> Result<Stands<'a>, u8> {
+        let stands = Stands::of_rule(table.sheet()?);
+        if !stands.may_cut(self.ahead) {
             Err(34)
         } else if self.words.len() > 512 {
             Err(32)
         } else if self.room < self.words.len() {
             Err(33)
         } else {
-            Ok(sheet)
+            Ok(stands)
         }
     }
 }
@@ -42,34 +44,67 @@ pub fn compare_part(kinds: &mut Kinds, table: &Table, part: &Part) -> Option<(Ve
             kinds.refused("judge_part", q);
             None
         }
-        Ok(sheet) => {
-            let judged = Judged::new(sheet, part.words, part.row);
-            let next = judged.next_row(part.ahead);
-            let verdicts = judged.words();
+        Ok(stands) => {
+            let judged = Judged::new(stands.sheet, part.words, part.row);
+            let next = stands.row(judged.next_row(part.ahead));
+            let verdicts = stands.words(judged.words());
             assert_eq!(answer, Ok(next), "the row of a part, {}", case());
             assert_eq!(buffer, [&verdicts, &before[verdicts.len()..]].concat(), "a part, {}", case());
-            kinds.saw(if part.ahead { "judge_part: ahead" } else { "judge_part: back" });
-            kinds.saw_if(part.words.is_empty(), "judge_part: no entry");
-            kinds.saw_if(part.words.len() == 512, "judge_part: 512 entries");
-            kinds.saw_if(part.room > verdicts.len(), "judge_part: places beyond the verdicts kept");
+            kinds_of_part(kinds, part);
+            kinds_of_spares(kinds, &stands, part);
             Some((verdicts, next))
         }
     }
 }
 
-/// A run over these parts, each with the places lent for its verdicts; how many entries the joined log has.
-pub fn compare_run(kinds: &mut Kinds, table: &Table, ahead: bool, parts: &[(Vec<u32>, usize)]) -> usize {
-    let sheet = table.sheet().unwrap();
+fn kinds_of_part(kinds: &mut Kinds, part: &Part) {
+    kinds.saw(if part.ahead { "judge_part: ahead" } else { "judge_part: back" });
+    kinds.saw_if(part.words.is_empty(), "judge_part: no entry");
+    kinds.saw_if(part.words.len() == 512, "judge_part: 512 entries");
+    kinds.saw_if(part.room > part.words.len(), "judge_part: places beyond the verdicts kept");
+}
+
+fn kinds_of_spares(kinds: &mut Kinds, stands: &Stands, part: &Part) {
+    let sheet = stands.sheet;
+    let spare: Vec<usize> = (0..sheet.nodes.len()).filter(|k| !stands.nodes.contains(k)).collect();
+    let given = |k: &usize| match sheet.nodes[*k] {
+        Line::Every(m, _) => part.row[*k] >> sheet.automata[m].start & 1 == 1,
+        _ => false,
+    };
+    // of an accepted part only a spare automaton has edges of the other direction
+    let (other, other_way) = if part.ahead {
+        (2, "judge_part: the rule looks ahead, a spare automaton back")
+    } else {
+        (1, "judge_part: the rule looks back, a spare automaton ahead")
+    };
+    let spare_looks = (0..sheet.automata.len()).any(|m| sheet.goes(m, other));
+    kinds.saw(if spare.is_empty() { "judge_part: no spare node" } else { "judge_part: a spare node" });
+    kinds.saw_if(spare.iter().any(given), "judge_part: a spare B's bit given, and 0 in the next row");
+    kinds.saw_if(spare_looks && stands.looks() != [false, false], other_way);
+}
+
+/// Parts of a run, each with the places lent for its verdicts; and the bits that each call finds in the ignored places of its row.
+pub struct Run<'a> {
+    pub ahead: bool,
+    pub parts: &'a [(Vec<u32>, usize)],
+    pub ignored: Row,
+}
+
+/// A run over these parts; how many entries the joined log has.
+pub fn compare_run(kinds: &mut Kinds, table: &Table, run: &Run) -> usize {
+    let stands = Stands::of_rule(table.sheet().unwrap());
+    let counting = stands.counting();
     let mut row = rozsvelen::plain_row(&table.ours).unwrap();
     let mut joined: Vec<u32> = vec![];
     let mut verdicts: Vec<u64> = vec![];
-    for (words, room) in parts {
-        match compare_part(kinds, table, &Part { ahead, row, words, room: *room }) {
+    for (words, room) in run.parts {
+        let given = std::array::from_fn(|k| row[k] & counting[k] | run.ignored[k] & !counting[k]);
+        match compare_part(kinds, table, &Part { ahead: run.ahead, row: given, words, room: *room }) {
             None => kinds.saw("run: a refused call among them"),
             Some((part, next)) => {
                 row = next;
                 let (words, part) = (&words[..], &part[..]);
-                (joined, verdicts) = if ahead {
+                (joined, verdicts) = if run.ahead {
                     ([words, &joined].concat(), [part, &verdicts].concat())
                 } else {
                     ([&joined, words].concat(), [&verdicts, part].concat())
@@ -77,10 +112,12 @@ pub fn compare_run(kinds: &mut Kinds, table: &Table, ahead: bool, parts: &[(Vec<
             }
         }
     }
-    let whole = Judged::new(sheet, &joined, plain(sheet));
-    assert_eq!(verdicts, whole.words(), "a run, {sheet:?} joined {joined:?}");
-    assert_eq!(row, whole.next_row(ahead), "a run's row, {sheet:?} joined {joined:?}");
+    let whole = Judged::new(stands.sheet, &joined, plain(stands.sheet));
+    let case = || format!("{:?} joined {joined:?} ignored {:?}", stands.sheet, run.ignored);
+    assert_eq!(verdicts, stands.words(whole.words()), "a run, {}", case());
+    assert_eq!(row, stands.row(whole.next_row(run.ahead)), "a run's row, {}", case());
     kinds.saw("run: equal to the whole log");
+    kinds.saw_if(run.ignored != [0; 64], "run: ignored bits of the row set");
     kinds.saw_if(joined.len() > 512, "run: more than 512 entries");
     joined.len()
 }

@@ -1,4 +1,5 @@
 //! The plain profile of a table, the verdicts of its nodes, and whether a table is in the profile.
+use super::looks::compare_looks;
 use super::{no, Table};
 use crate::checker::meaning::Judged;
 use crate::checker::profile;
@@ -19,6 +20,7 @@ pub fn compare_profile(kinds: &mut Kinds, table: &Table, log: &[u32]) -> Option<
         Ok(numbers) => {
             let made = Table::from_numbers(numbers);
             assert_eq!(compare_in_profile(kinds, &made), Some(true), "profile of {:?}", table.theirs);
+            assert_eq!(compare_looks(kinds, &made), compare_looks(kinds, table), "the ways that the profile looks, {:?}", table.theirs);
             compare_verdicts(&made, &table.judged(log).unwrap());
             kinds_of_sheet(kinds, table.sheet().unwrap());
             Some(made)

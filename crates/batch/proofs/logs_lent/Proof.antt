@@ -5,7 +5,8 @@ use lib.ListN.{length}
 use denote.Ref.{now}
 use Rattle.aldlf.specs.Sheet.{sheetOf}
 use Rattle.aldlf.specs.declared.Table.{Table}
-use Rattle.judge.specs.Prepared.{Lent, Prepared}
+use Rattle.sheet.specs.Facts.{Lent}
+use Rattle.judge.specs.Prepared.{Prepared}
 use Rattle.packing.specs.Packed.{Packed}
 use Rattle.sheet.specs.Given.{wellFormed}
 use Rattle.sheet.proofs.Facts.{table-facts}

@@ -129,11 +129,12 @@ impl<const B: usize> Judging<B> {
         (turned(&marking.marks[m.start]), number)
     }
 
-    /// A word for each entry, bit k for node k.
-    pub(super) fn write(&self, nodes: usize, words: &mut [u64]) {
-        if words.len() * nodes <= 512 {
+    /// A word for each entry, bit k for node k, of nodes that were judged.
+    pub(super) fn write(&self, nodes: u64, words: &mut [u64]) {
+        let is_one = |k: &usize| nodes >> k & 1 == 1;
+        if words.len() * nodes.count_ones() as usize <= 512 {
             words.fill(0);
-            for k in 0..nodes {
+            for k in (0..64 - nodes.leading_zeros() as usize).filter(is_one) {
                 let bitset = self.bitset(k);
                 for (i, w) in words.iter_mut().enumerate() {
                     *w |= (bitset[i / 64] >> (i % 64) & 1) << k;
@@ -142,7 +143,7 @@ impl<const B: usize> Judging<B> {
             return;
         }
         for (b, words) in words.chunks_mut(64).enumerate() {
-            let mut square = std::array::from_fn(|k| if k < nodes { self.bitset(k)[b] } else { 0 });
+            let mut square = std::array::from_fn(|k| if is_one(&k) { self.bitset(k)[b] } else { 0 });
             transpose(&mut square);
             words.copy_from_slice(&square[..words.len()]);
         }

@@ -7,7 +7,7 @@ mod marking;
 pub use judging::Judging;
 
 use super::given::given;
-use super::{logs_fit, looks_only, Row, TABLE};
+use super::{logs_fit, part_nodes, Row, TABLE};
 
 pub fn judge(t: &[u16; TABLE], log: &[u32], verdicts: &mut [u64]) -> Option<usize> {
     if !given(t) || log.is_empty() || log.len() > 512 || verdicts.len() < log.len() {
@@ -25,7 +25,7 @@ fn whole<const B: usize>(t: &[u16; TABLE], log: &[u32], verdicts: &mut [u64]) ->
     let mut judging = Judging::<B>::new(log.len());
     judging.nodes(t, log, u64::MAX, None);
     let nodes = t[1312] as usize;
-    judging.write(nodes, &mut verdicts[..log.len()]);
+    judging.write(u64::MAX >> (64 - nodes), &mut verdicts[..log.len()]);
     judging.bitset(nodes - 1).iter().map(|c| c.count_ones() as usize).sum()
 }
 
@@ -59,7 +59,7 @@ fn joined(t: &[u16; TABLE], words: &[u32], lengths: &[u16], verdicts: &mut [u64]
     }
     judging.nodes(t, words, u64::MAX, None);
     let nodes = t[1312] as usize;
-    judging.write(nodes, verdicts);
+    judging.write(u64::MAX >> (64 - nodes), verdicts);
     let mut left = &verdicts[..];
     for (n, held) in lengths.iter().zip(held) {
         let (log, rest) = left.split_at(*n as usize);
@@ -70,15 +70,20 @@ fn joined(t: &[u16; TABLE], words: &[u32], lengths: &[u16], verdicts: &mut [u64]
 
 /// A part, given the row of the entry beside it; the row that it gives.
 pub fn part(t: &[u16; TABLE], log: &[u32], verdicts: &mut [u64], row: &Row, ahead: bool) -> Option<Row> {
-    if !given(t) || !looks_only(t, ahead) || log.len() > 512 || verdicts.len() < log.len() {
+    if !given(t) {
         return None;
     }
-    Some(if log.len() <= 64 { one_part::<1>(t, log, verdicts, row, ahead) } else { one_part::<8>(t, log, verdicts, row, ahead) })
+    let wanted = part_nodes(t, ahead)?;
+    if log.len() > 512 || verdicts.len() < log.len() {
+        return None;
+    }
+    let verdicts = &mut verdicts[..log.len()];
+    Some(if log.len() <= 64 { one_part::<1>(t, log, verdicts, wanted, (row, ahead)) } else { one_part::<8>(t, log, verdicts, wanted, (row, ahead)) })
 }
 
-fn one_part<const B: usize>(t: &[u16; TABLE], log: &[u32], verdicts: &mut [u64], row: &Row, ahead: bool) -> Row {
+fn one_part<const B: usize>(t: &[u16; TABLE], log: &[u32], verdicts: &mut [u64], wanted: u64, row: (&Row, bool)) -> Row {
     let mut judging = Judging::<B>::new(log.len());
-    let next = judging.nodes(t, log, u64::MAX, Some((row, ahead)));
-    judging.write(t[1312] as usize, &mut verdicts[..log.len()]);
+    let next = judging.nodes(t, log, wanted, Some(row));
+    judging.write(wanted, verdicts);
     next
 }

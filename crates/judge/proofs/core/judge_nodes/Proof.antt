@@ -12,7 +12,7 @@ use Rattle.judge.proofs.RowLaws.{inner, row-form}
 use Rattle.judge.proofs.StepLaws.{kept-next, kept-none}
 use Rattle.judge.proofs.WordLaws.{held-last, words-end, words-none}
 use Rattle.judge.specs.Nodes.{Known, Ready, Through, modalKind}
-use Rattle.judge.specs.Prepared.{Lent}
+use Rattle.sheet.specs.Facts.{Lent}
 use Rattle.judge.specs.declared.nodes.Job.{Job}
 use Rattle.packing.specs.Numbers.{lentUsed}
 use Rattle.sheet.specs.Facts.{automatonAt, nodeAt}

@@ -3,13 +3,14 @@ use Prim.Native.Nat.{ℕ}
 use Rattle.aldlf.proofs.Bools.{and-right}
 use Rattle.aldlf.specs.Constants.{entryLimit}
 use Rattle.aldlf.specs.Outcomes.{wholeNumber}
-use Rattle.aldlf.specs.Run.{IsPlain}
 use Rattle.aldlf.specs.Sheet.{sheetOf}
 use Rattle.aldlf.specs.declared.Table.{Table}
-use Rattle.judge.proofs.GivenLaws.{plain-is-plain, sound}
+use Rattle.sheet.proofs.Sound.{sound}
+use Rattle.judge.specs.Nodes.{AllPlain}
+use Rattle.judge.proofs.GivenLaws.{plain-is-plain}
 use Rattle.aldlf.proofs.Outcomes.{three-yes, whole-accepted, whole-refused}
 use Rattle.judge.proofs.OutcomeLaws.{plain-held, plain-words}
-use Rattle.judge.specs.Prepared.{Lent}
+use Rattle.sheet.specs.Facts.{Lent}
 use Rattle.packing.specs.Packed.{Packed}
 use Rattle.sheet.proofs.Facts.{table-facts}
 use Rattle.sheet.specs.Given.{wellFormed}
@@ -68,7 +69,7 @@ returns-2 c = let S = c .before .before .before .before .before .before .before 
           let T = sheetOf t in
           let L = lent (c .before .before .before .before .before) t P in
           let d = c .before .before .judge-core .ensures t L in
-          let is-plain = subst (IsPlain T) (sym (row .ensures t L)) (plain-is-plain t (L .facts)) in
+          let is-plain = subst (AllPlain T) (sym (row .ensures t L)) (plain-is-plain t (L .facts)) in
           whole-accepted (wellFormed t) T log (now (S .args .verdicts)) _ _ (sym (q .ensures t P) ∙ no)
           (d .done .held-is ∙ plain-held T (sound t (L .facts)) (row .result) is-plain log (L .facts .some-node) _ (d .done .words-are))
           (d .put ∙ ap (λ (l : List ℕ). l ++ drop (length log) (now (S .args .verdicts))) (d .done .words-are ∙ plain-words T (sound t (L .facts)) (row .result) is-plain log)),

@@ -1,0 +1,4 @@
+pub mod MarkLaws
+pub mod TrimLaws
+pub mod LookLaws
+pub mod Request

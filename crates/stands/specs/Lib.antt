@@ -1,0 +1,5 @@
+pub mod Answers
+pub mod Right
+pub mod Trimmed
+pub mod Marking
+pub mod Looking
