@@ -1,23 +1,25 @@
 -- What an accepted part gives, read off its outcome: the bits of the nodes that the rule stands on, as the whole sheet says, all other bits 0; and ignored row bits do not matter.
 use Prim.Native.Nat.{ℕ, zero, suc, _≤_, _<_}
 use native.Mathlib.Omega.{arith}
-use mathlib.Core.Path.{_≡_, refl, sym, subst, ap, ap₂, _∙_, fun-ext}
-use mathlib.Core.Logic.{_⊎_, inl, inr}
+use mathlib.Core.Path.{_≡_, refl, sym, ap, ap₂, _∙_, fun-ext}
 use mathlib.Core.Bool.{Bool, true, false, _&&_}
 use mathlib.Core.List.{List, [], _∷_, _++_}
 use lib.Dec.{leb}
-use lib.ListN.{getD, length, drop, List·getD-append}
+use lib.ListN.{getD, length, drop, length-append, length-drop, List·getD-append}
+use lib.Seq.{drop-append-seam}
+use borrow.Author.Tests.{leb-true}
 use Rattle.aldlf.specs.Constants.{nodeLimit, stateLimit, entryLimit}
 use Rattle.aldlf.specs.Sheet.{Sheet, bit}
 use Rattle.aldlf.specs.Stands.{StandsOn, stands, ruleSheet}
-use Rattle.aldlf.specs.Parts.{Bits, counts, looksOnly, Sound}
+use Rattle.aldlf.specs.Parts.{counts, looksOnly, Sound}
 use Rattle.aldlf.specs.Verdict.{judge, rowOf}
-use Rattle.aldlf.specs.Outcomes.{packBits, tabulate, bitsOf, packRow, noRow, partWords, firstNo, Part, partNumber, partOutcome}
+use Rattle.aldlf.specs.Outcomes.{packBits, bitsOf, packRow, noRow, partWords, firstNo, Part, partNumber, partOutcome, PartRight}
 use Rattle.aldlf.specs.declared.Row.{Row}
 use Rattle.aldlf.specs.declared.Way.{Way}
 use Rattle.aldlf.proofs.Bools.{and-left, and-right}
+use Rattle.aldlf.proofs.Agree.{judge-iff, rowOf-iff}
 use Rattle.aldlf.proofs.Same.{judge-same, rowOf-same}
-use Rattle.aldlf.proofs.Stands.{stands-iff}
+use Rattle.aldlf.proofs.Stands.{stands-iff, not-stood, stood-iff}
 use Rattle.aldlf.proofs.Rule.{rule-counts, rule-sound, rule-row, part-judge, rule-bits}
 use Rattle.aldlf.proofs.Packing.{tabulate-ext, bitsOf-pack, words-length}
 
@@ -29,25 +31,31 @@ module _ (given : Bool) (w : Way) (S : Sheet) (row : Row) (words buffer : List �
   abbrev given-out : Part
   given-out = record { number = 0; row = packRow (rowOf w (ruleSheet S) words (bitsOf row)); buffer = partWords (ruleSheet S) (bitsOf row) words ++ drop (length words) buffer }
 
-  accepted : outcome .number ≡ 0 → outcome ≡ given-out
+  -- all four questions got a yes
+  accepted : outcome .number ≡ 0 → (given ≡ true) × (length words ≤ length buffer) × (outcome ≡ given-out)
   unfolding partOutcome partNumber
-  accepted = go given (looksOnly w S) (leb (length words) entryLimit) (leb (length words) (length buffer))
+  accepted e =
+      let r = go given (looksOnly w S) (leb (length words) entryLimit) (leb (length words) (length buffer)) e in
+      (r .0, leb-true (length words) (length buffer) (r .1), r .2)
     where
       answer : ℕ → Part
       answer q = elim q [ zero ↦ given-out | suc q ↦ record { number = suc q; row = noRow; buffer = buffer } ]
 
-      go : (b₁ b₂ b₃ b₄ : Bool) → let a = answer (firstNo ((b₁, 31) ∷ (b₂, 34) ∷ (b₃, 32) ∷ (b₄, 33) ∷ [])) in a .number ≡ 0 → a ≡ given-out
+      go : (b₁ b₂ b₃ b₄ : Bool) → let a = answer (firstNo ((b₁, 31) ∷ (b₂, 34) ∷ (b₃, 32) ∷ (b₄, 33) ∷ [])) in a .number ≡ 0 → (b₁ ≡ true) × (b₄ ≡ true) × (a ≡ given-out)
       go false b₂ b₃ b₄ e = absurd (omega arith)
       go true false b₃ b₄ e = absurd (omega arith)
       go true true false b₄ e = absurd (omega arith)
       go true true true false e = absurd (omega arith)
-      go true true true true e = refl
+      go true true true true e = (refl, refl, refl)
+
+  pub part-given : outcome .number ≡ 0 → given ≡ true
+  part-given e = accepted e .0
 
   module _ (sound : Sound S) (yes : outcome .number ≡ 0) where
     -- bit k of word i: the verdict of the whole sheet with this row, of the nodes that the rule stands on; of others 0
     pub part-bits : (i k : ℕ) → i < length words → bit (getD (outcome .buffer) i 0) k ≡ stands S k && judge S words (bitsOf row) (suc k) k i
     part-bits i k l =
-        ap (λ (a : Part). bit (getD (a .buffer) i 0) k) (accepted yes)
+        ap (λ (a : Part). bit (getD (a .buffer) i 0) k) (accepted yes .2)
         ∙ ap (λ (v : ℕ). bit v k) (List·getD-append (partWords (ruleSheet S) (bitsOf row) words) (drop (length words) buffer) 0 i (omega (arith, words-length (ruleSheet S) (bitsOf row) words)))
         ∙ rule-bits S sound words (bitsOf row) i k l
         ∙ part-judge S sound words (bitsOf row) k i l
@@ -55,9 +63,21 @@ module _ (given : Bool) (w : Way) (S : Sheet) (row : Row) (words buffer : List �
     -- bit s of number k of the row likewise
     pub part-row : (k s : ℕ) → k < nodeLimit → s < stateLimit → bitsOf (outcome .row) k s ≡ stands S k && rowOf w S words (bitsOf row) k s
     part-row k s l ls =
-        ap (λ (a : Part). bitsOf (a .row) k s) (accepted yes)
+        ap (λ (a : Part). bitsOf (a .row) k s) (accepted yes .2)
         ∙ bitsOf-pack (rowOf w (ruleSheet S) words (bitsOf row)) k s l ls
         ∙ rule-row w S sound words (bitsOf row) k s
+
+    -- WHAT A PART GIVES, in the words of the meaning
+    pub part-right : PartRight w S row words buffer outcome
+    part-right =
+        record {
+          verdicts = λ i k l o. let r = stood-iff S sound k (bit (getD (outcome .buffer) i 0) k) (judge S words (bitsOf row) (suc k) k i) (part-bits i k l) (judge-iff S words (bitsOf row) (suc k) k i l) in (λ p. r .0 p .1, λ z. r .1 (o, z));
+          others = λ i k l o. part-bits i k l ∙ ap (λ (b : Bool). b && judge S words (bitsOf row) (suc k) k i) (not-stood S sound k o);
+          row-gives = λ k s l ls. stood-iff S sound k (bitsOf (outcome .row) k s) (rowOf w S words (bitsOf row) k s) (part-row k s l ls) (rowOf-iff w S words (bitsOf row) k s);
+          size = ap (λ (a : Part). length (a .buffer)) (accepted yes .2)
+              ∙ omega (arith, length-append (partWords (ruleSheet S) (bitsOf row) words) (drop (length words) buffer), words-length (ruleSheet S) (bitsOf row) words, length-drop (length words) buffer, accepted yes .1);
+          kept = ap₂ drop (sym (words-length (ruleSheet S) (bitsOf row) words)) (ap (λ (a : Part). a .buffer) (accepted yes .2)) ∙ drop-append-seam (partWords (ruleSheet S) (bitsOf row) words) (drop (length words) buffer);
+        }
 
 -- row bits that do not count are ignored
 pub part-ignores : (given : Bool) (w : Way) (S : Sheet) → Sound S → (row row′ : Row) → ((k s : ℕ) → StandsOn S k → counts S (S .line k) s ≡ true → bitsOf row k s ≡ bitsOf row′ k s)

@@ -23,7 +23,7 @@ use Rattle.aldlf.proofs.Plain.{verdict-iff, row-iff}
 use Rattle.aldlf.proofs.Cut.{nearAt, farAt}
 use Rattle.aldlf.proofs.Same.{judge-same, rowOf-same}
 use Rattle.aldlf.proofs.Splitting.{Uses, Any, length-join, split-near, split-far, split-row, cleared}
-use Rattle.aldlf.proofs.Stands.{stands-in, stands-iff}
+use Rattle.aldlf.proofs.Stands.{stands-in, stands-iff, not-stood, stood-iff}
 use Rattle.aldlf.proofs.Rule.{rule-counts, rule-plain, rule-sound, rule-used, rule-verdict, other-verdict, rule-plain-row, rule-bits}
 use Rattle.aldlf.proofs.Packing.{length-tabulate, getD-tabulate, tabulate-ext, tabulate-join, packBits-lt, bitsOf-pack, words-length}
 use Rattle.aldlf.proofs.Outcomes.{whole-bit}
@@ -117,12 +117,7 @@ module _ (given : Bool) (w : Way) (S : Sheet) (sound : Sound S) where
 
 -- a packed row of the sheet that parts judge is the log's row
 row-says : (w : Way) (S : Sheet) → Sound S → (log : List ℕ) (k s : ℕ) → (rowOf w (ruleSheet S) log (plain (ruleSheet S)) k s ≡ true) ↔ (StandsOn S k × RowSays w S log k s)
-row-says w S sound log k s =
-    let a = stands S k in
-    let b = rowOf w S log (plain S) k s in
-    let on = stands-iff S sound k in
-    Iff·trans (eq-iff _ _ (rule-plain-row w S sound log k s))
-    (λ p. (on .0 (and-left a b p), row-iff w S log k s .0 (and-right a b p)), λ q. and-intro (on .1 (q .0)) (row-iff w S log k s .1 (q .1)))
+row-says w S sound log k s = stood-iff S sound k _ (rowOf w S log (plain S) k s) (rule-plain-row w S sound log k s) (row-iff w S log k s)
 
 packed-row : (w : Way) (S : Sheet) → Sound S → (log : List ℕ) → RowOf w S log (packRow (rowOf w (ruleSheet S) log (plain (ruleSheet S))))
 packed-row w S sound log =
@@ -147,7 +142,7 @@ fine-right given w S sound st fine =
     record {
       entries = ap length (fine .words) ∙ words-length (ruleSheet S) (plain (ruleSheet S)) (st .joined);
       verdicts = λ i k l o. Iff·trans (eq-iff (bit (getD (st .verdicts) i 0) k) (verdict S (st .joined) k i) (on i k l o)) (verdict-iff S (st .joined) k i l);
-      others = λ i k l o. bit-at i k l ∙ other-verdict S sound (st .joined) k i (off k o (bool-cases (stands S k)));
+      others = λ i k l o. bit-at i k l ∙ other-verdict S sound (st .joined) k i (not-stood S sound k o);
       row = λ e. rw (fine .row e) (packed-row w S sound (st .joined));
       whole = λ buffer e i k l o. whole-bit given S (st .joined) buffer e i k l (stands-in S sound k (stands-iff S sound k .1 o)) ∙ sym (on i k l o);
     }
@@ -157,10 +152,6 @@ fine-right given w S sound st fine =
 
     on : (i k : ℕ) → i < length (st .joined) → StandsOn S k → bit (getD (st .verdicts) i 0) k ≡ verdict S (st .joined) k i
     on i k l o = bit-at i k l ∙ rule-verdict S sound (st .joined) k i (stands-iff S sound k .1 o) l
-
-    off : (k : ℕ) → ¬ (StandsOn S k) → (stands S k ≡ true) ⊎ (stands S k ≡ false) → stands S k ≡ false
-    off k o (inl e) = absurd (o (stands-iff S sound k .0 e))
-    off k o (inr e) = e
 
 -- with a table that no sheet gives every call is refused
 run-none : (w : Way) (S : Sheet) (st : Stand) (calls : List Call) → runFrom false w S st calls ≡ st

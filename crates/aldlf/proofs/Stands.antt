@@ -322,6 +322,22 @@ module _ (S : Sheet) (sound : Sound S) where
       flagged (rule e) = stands-rule _ e
       flagged (named {k = j} s z) = stands-names j _ (flagged s) z
 
+module _ (S : Sheet) (sound : Sound S) (k : ℕ) where
+  -- a node that the rule does not stand on has no flag
+  pub not-stood : ¬ (StandsOn S k) → stands S k ≡ false
+  not-stood o = go (bool-cases (stands S k))
+    where
+      go : (stands S k ≡ true) ⊎ (stands S k ≡ false) → stands S k ≡ false
+      go (inl e) = absurd (o (stands-iff S sound k .0 e))
+      go (inr e) = e
+
+  -- a flag and a decision, by what they decide
+  pub stood-iff : {X : Type 0} (b d : Bool) → b ≡ stands S k && d → (d ≡ true) ↔ X → (b ≡ true) ↔ (StandsOn S k × X)
+  stood-iff b d e f = (
+    λ p. let q = sym e ∙ p in (stands-iff S sound k .0 (and-left (stands S k) d q), f .0 (and-right (stands S k) d q)),
+    λ q. e ∙ and-intro (stands-iff S sound k .1 (q .0)) (f .1 (q .1)),
+  )
+
 -- QUESTION 34 AND THE EDGES THAT THE RULE STANDS ON -------------------------------------------------------------------------------
 
 sameDir-true : (d d′ : Dir) → sameDir d d′ ≡ true → d ≡ d′

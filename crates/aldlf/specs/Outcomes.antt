@@ -9,8 +9,8 @@ use lib.ListN.{getD, length, drop, replicate}
 use Rattle.aldlf.specs.Constants.{nodeLimit, stateLimit, entryLimit}
 use Rattle.aldlf.specs.Sheet.{Sheet, bit}
 use Rattle.aldlf.specs.Meaning.{Holds}
-use Rattle.aldlf.specs.Stands.{ruleSheet}
-use Rattle.aldlf.specs.Parts.{Bits, counts, looksOnly}
+use Rattle.aldlf.specs.Stands.{StandsOn, ruleSheet}
+use Rattle.aldlf.specs.Parts.{Bits, HoldsIn, RowGives, counts, looksOnly}
 use Rattle.aldlf.specs.Verdict.{judge, verdict, rowOf, plain}
 use Rattle.aldlf.specs.declared.Row.{Row}
 use Rattle.aldlf.specs.declared.Way.{Way}
@@ -121,6 +121,18 @@ partOutcome given w S row words buffer =
       | zero ↦ record { number = 0; row = packRow (rowOf w (ruleSheet S) words (bitsOf row)); buffer = partWords (ruleSheet S) (bitsOf row) words ++ drop (length words) buffer }
       | suc q ↦ record { number = suc q; row = noRow; buffer = buffer }
     ]
+
+-- WHAT A PART GIVES, of the outcome o of judging a part that was accepted, with this row beside it, in a buffer that was lent.
+pub record PartRight (w : Way) (S : Sheet) (row : Row) (words lent : List ℕ) (o : Part) : Type 0 where
+  -- bit k of word i is the meaning's verdict on node k, one that the rule stands on, at entry i of the part
+  pub verdicts : (i k : ℕ) → i < length words → StandsOn S k → (bit (getD (o .buffer) i 0) k ≡ true) ↔ HoldsIn S words (bitsOf row) k i
+  -- all other bits are 0
+  pub others : (i k : ℕ) → i < length words → ¬ (StandsOn S k) → bit (getD (o .buffer) i 0) k ≡ false
+  -- bit s of number k of the row that it gives, likewise
+  pub row-gives : (k s : ℕ) → k < nodeLimit → s < stateLimit → (bitsOf (o .row) k s ≡ true) ↔ (StandsOn S k × RowGives w S words (bitsOf row) k s)
+  -- the buffer has its length, and the words beyond the part are as lent
+  pub size : length (o .buffer) ≡ length lent
+  pub kept : drop (length words) (o .buffer) ≡ drop (length words) lent
 
 -- The plain row of a sheet as it is handed over, ignored bits 0. Parts of a sheet S start from the plain row of `ruleSheet S`.
 abbrev pub plainRow : Sheet → Row

@@ -54,7 +54,7 @@ settled-long (suc q) row after buffer h = refl
 part-long : (given : Bool) (w : Way) (S : Sheet) (row : Row) (words buffer : List ℕ) → length (partOutcome given w S row words buffer .row .bits) ≡ nodeLimit
 unfolding partOutcome
 part-long given w S row words buffer =
-    settled-long (partNumber given w S words buffer) (packRow (partRow w S words (bitsOf row))) (partWords S (bitsOf row) words ++ drop (length words) buffer) buffer refl
+    settled-long (partNumber given w S words buffer) (packRow (partRow w (ruleSheet S) words (bitsOf row))) (partWords (ruleSheet S) (bitsOf row) words ++ drop (length words) buffer) buffer refl
 
 stays-long : (w : Way) (st : Stand) (c : Call) (number : ℕ) (row : Row) (buffer : List ℕ) → length (st .row .bits) ≡ nodeLimit → length (row .bits) ≡ nodeLimit
     → length (afterCall w st c (record { number = number; row = row; buffer = buffer }) .row .bits) ≡ nodeLimit

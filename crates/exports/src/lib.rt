@@ -98,12 +98,7 @@ pub extern "C" fn rozsvelen_rule_looks(table: &[u16]) -> u64
     let mut numbers = [0u32; PLACES];
     lend_table(table, &mut numbers);
     let looks = rule_looks_lent(&numbers);
-    code(
-        looks.number,
-        0,
-        one(looks.ahead) + 2 * one(looks.back),
-        0,
-    )
+    code(looks.number, 0, one(looks.ahead) + 2 * one(looks.back), 0)
 }
 
 // Reads a log's text into words and counts its entries. A refusal alters nothing.

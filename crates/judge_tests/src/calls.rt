@@ -49,6 +49,11 @@ pub(crate) fn plain(line: &[u8], row: Row) -> Row {
     answered(judge::plain_row(table(line)), row)
 }
 
+// Which ways the rule looks.
+pub(crate) fn looks(line: &[u8]) {
+    show::looks(stands::rule_looks(table(line)));
+}
+
 // A row with all its bits set.
 pub(crate) fn full() -> Row {
     let row = Row {

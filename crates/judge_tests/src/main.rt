@@ -32,7 +32,8 @@ fn case(line: &[u8], row: Row) -> Row {
     next
 }
 
-// The call: a whole log judged, a part looking ahead or back, the plain row or one with all its bits set put in hand.
+// The call: a whole log judged, a part looking ahead or back, the plain row or one with all its bits set put in hand, or which ways the
+// rule looks.
 fn call(line: &[u8], row: Row) -> Row {
     let letter = cases::letter(line);
     if letter == b'a' {
@@ -46,6 +47,10 @@ fn call(line: &[u8], row: Row) -> Row {
     }
     if letter == b'f' {
         return calls::full();
+    }
+    if letter == b'l' {
+        calls::looks(line);
+        return row;
     }
     calls::whole(line);
     row

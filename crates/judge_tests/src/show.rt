@@ -1,6 +1,7 @@
 // What is printed of an outcome.
 use aldlf::Row;
 use judge::Judged;
+use stands::RuleLooks;
 
 // The count held, or a refusal's number.
 pub(crate) fn judged(r: Judged) {
@@ -14,6 +15,23 @@ pub(crate) fn judged(r: Judged) {
             number(q as u64);
         }
     }
+}
+
+// Which ways a rule looks, or a refusal's number.
+pub(crate) fn looks(a: RuleLooks) {
+    number(a.number as u64);
+    put(b" ahead");
+    yes(a.ahead);
+    put(b" back");
+    yes(a.back);
+}
+
+fn yes(on: bool) {
+    if on {
+        put(b" yes");
+        return;
+    }
+    put(b" no");
 }
 
 // The numbers of a row's first four nodes.

@@ -88,9 +88,13 @@ mark-requires-4 c κs = let S = c .before .before .before .before .before .befor
 mark-automaton-requires : tie.Need-mark-automaton-requires
 mark-automaton-requires c κs =
     let S = c .before .before .before .before .before .before .before .before .before .before .before .before .before in
-    let x = c .before .before .before .before .before .before .before .before .before .line-at .result in
-    (S .pre .0, ((ap length (c .before .before .before .before .mark4 .ensures) ∙ length-set (now (S .args .flags)) _ true ∙ S .pre .1 .0 .0, S .pre .1 .0 .1, named (c .before .before .before .before .before .before .before .before .before) .modal (either-letter _ letterD letterB (c .before .before .before .before .before .before .if3 .taken)) .0),
-    λ t L. operand-taken (sheetOf t) (x .b) (now (S .args .flags)) _ (now (S .args .taken)) (S .pre .1 .1 t L) (c .before .before .before .before .mark4 .ensures)))
+    let x = c .before .before .before .before .before .before .before .before .before .line-at .result in (
+      S .pre .0,
+      (
+        (ap length (c .before .before .before .before .mark4 .ensures) ∙ length-set (now (S .args .flags)) _ true ∙ S .pre .1 .0 .0, S .pre .1 .0 .1, named (c .before .before .before .before .before .before .before .before .before) .modal (either-letter _ letterD letterB (c .before .before .before .before .before .before .if3 .taken)) .0),
+        λ t L. operand-taken (sheetOf t) (x .b) (now (S .args .flags)) _ (now (S .args .taken)) (S .pre .1 .1 t L) (c .before .before .before .before .mark4 .ensures),
+      ),
+    )
 
 same-length-3 : tie.Need-same-length-3
 same-length-3 c = search needs
