@@ -14,12 +14,11 @@ use Rattle.aldlf.specs.declared.Table.{Table}
 use Rattle.aldlf.specs.declared.Row.{Row}
 use Rattle.aldlf.specs.declared.Automaton.{Automaton}
 use Rattle.aldlf.specs.declared.NodeLine.{NodeLine}
-use Rattle.sheet.specs.Facts.{nodeAt, automatonAt, AutomatonFacts}
+use Rattle.sheet.specs.Facts.{nodeAt, automatonAt, AutomatonFacts, Lent}
 use Rattle.reach.specs.Marks.{at, EdgesFit}
 use Rattle.judge.specs.declared.nodes.Job.{Job}
 use Rattle.judge.specs.declared.nodes.NodeAnswer.{NodeAnswer}
 use Rattle.judge.specs.Nodes.{modalKind, saysNow, PlainFits, Added, ModalFits, ModalDone, Known, NodeDone, cutOf}
-use Rattle.sheet.specs.Facts.{Lent}
 use Rattle.judge.proofs.Slices.{edges-fit, slice-reached}
 use Rattle.judge.proofs.WordLaws.{plain-of, plain-bits, words-low, added-words, added-count}
 use Rattle.judge.proofs.RowLaws.{inner, row-form, plain-number}

@@ -14,14 +14,13 @@ use Rattle.aldlf.specs.declared.Row.{Row}
 use Rattle.aldlf.specs.declared.Automaton.{Automaton}
 use Rattle.aldlf.specs.declared.NodeLine.{NodeLine}
 use Rattle.aldlf.proofs.Laws.{judge-below}
-use Rattle.sheet.specs.Facts.{nodeAt, automatonAt, edgeAt}
+use Rattle.sheet.specs.Facts.{nodeAt, automatonAt, edgeAt, Lent}
 use Rattle.reach.specs.Marks.{at, testOf}
 use Rattle.reach.specs.Columns as steps
 use Rattle.reach.proofs.Shared.{filled-keep}
 use Rattle.judge.specs.declared.nodes.Job.{Job}
 use Rattle.judge.specs.declared.nodes.Have.{Have}
 use Rattle.judge.specs.Nodes.{modalKind, Known, Words, cutOf, Stepped, Kept, Ready}
-use Rattle.sheet.specs.Facts.{Lent}
 use Rattle.judge.proofs.Slices.{test-at}
 use Rattle.judge.proofs.KnownLaws.{size, at-cut}
 use Rattle.judge.proofs.WordLaws.{known}

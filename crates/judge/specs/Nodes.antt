@@ -18,10 +18,9 @@ use Rattle.aldlf.specs.declared.Automaton.{Automaton}
 use Rattle.aldlf.specs.declared.Way.{Way}
 use Rattle.aldlf.specs.declared.Way.the-variants.{Ahead, Back}
 use Rattle.stands.specs.declared.lent.Looks.{Looks}
-use Rattle.sheet.specs.Facts.{nodeAt, automatonAt}
+use Rattle.sheet.specs.Facts.{nodeAt, automatonAt, Lent}
 use Rattle.reach.specs.Marks.{at, pick, verdictIn, verdictAdded, Reaching}
 use Rattle.reach.specs.Columns as steps
-use Rattle.sheet.specs.Facts.{Lent}
 use Rattle.judge.specs.declared.core.Part.{Part}
 use Rattle.judge.specs.declared.core.CoreAnswer.{CoreAnswer}
 use Rattle.judge.specs.declared.nodes.Job.{Job}

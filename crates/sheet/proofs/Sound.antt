@@ -1,9 +1,9 @@
 -- THE SHEET OF A TABLE THAT SOME TEXT GIVES IS SOUND: its lines name earlier nodes, its edges go to states of their automaton, its automata start in a state of their own, and its rows' bits fit.
 use Prim.Native.Nat.{ℕ, _+_, _≤_, _<_}
 use native.Mathlib.Omega.{arith}
-use mathlib.Core.Path.{_≡_, refl, sym, subst, ap, _∙_}
+use mathlib.Core.Path.{_≡_, sym, subst, ap, _∙_}
 use mathlib.Core.Logic.{_⊎_, inl, inr}
-use mathlib.Core.Bool.{Bool, true, false, false≢true}
+use mathlib.Core.Bool.{true, false, false≢true}
 use lib.Dec.{ltb}
 use borrow.Author.Tests.{ltb-true}
 use Rattle.aldlf.specs.Constants.{nodeLimit, stateLimit, letterN, letterA, letterO, letterD, letterB}

@@ -2,7 +2,7 @@
 use Prim.Native.Nat.{ℕ, zero, suc, _+_, _-_, _≤_, _<_}
 use native.Mathlib.Omega.{arith}
 use native.Mathlib.Numerals.{add-one}
-use mathlib.Core.Path.{_≡_, refl, sym, subst, ap, ap₂, _∙_}
+use mathlib.Core.Path.{_≡_, refl, sym, subst, ap, _∙_}
 use mathlib.Core.Logic.{_⊎_, inl, inr}
 use mathlib.Core.Bool.{Bool, true, false, cond}
 use mathlib.Core.List.{List}
@@ -16,11 +16,9 @@ use Rattle.aldlf.specs.Stands.{EdgeOf, Tests, mark, markTests, markModal, markL
 use Rattle.aldlf.specs.declared.Table.{Table}
 use Rattle.aldlf.specs.declared.Edge.{Edge}
 use Rattle.aldlf.specs.declared.NodeLine.{NodeLine}
-use Rattle.aldlf.specs.declared.Automaton.{Automaton}
 use Rattle.aldlf.proofs.Bools.{bool-cases}
 use Rattle.aldlf.proofs.Letters.{by-letter}
 use Rattle.aldlf.proofs.Stands.{On, no-flag, mark-keeps, tests-keep, tests-here, line-keeps}
-use Rattle.packing.specs.Numbers.{lentEdge}
 use Rattle.sheet.specs.Facts.{nodeAt, automatonAt, TableFacts, Lent}
 use Rattle.stands.specs.Marking.{Taken, Marked, turned, TestsIn, LineIn}
 

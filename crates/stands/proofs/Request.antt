@@ -1,7 +1,7 @@
 -- WHAT THE RULE STANDS ON, for every table that some sheet gives: the flags are the declared nodes, and the ways that `rule_looks` answers are those of the edges that the rule stands on.
 use Prim.Native.Nat.{ℕ}
 use native.Mathlib.Omega.{arith}
-use mathlib.Core.Path.{_≡_, refl, sym, ap, ap₂, _∙_}
+use mathlib.Core.Path.{_≡_, sym, ap, ap₂, _∙_}
 use mathlib.Core.Logic.{_⊎_, inl, inr, _↔_, Iff·trans}
 use mathlib.Core.Bool.{Bool, true, false, not}
 use Rattle.aldlf.specs.Sheet.{ahead, back, sheetOf}

@@ -12,10 +12,9 @@ use Rattle.judge.proofs.RowLaws.{inner, row-form}
 use Rattle.judge.proofs.StepLaws.{kept-next, kept-none}
 use Rattle.judge.proofs.WordLaws.{held-last, words-end, words-none}
 use Rattle.judge.specs.Nodes.{Known, Ready, Through, modalKind}
-use Rattle.sheet.specs.Facts.{Lent}
+use Rattle.sheet.specs.Facts.{Lent, automatonAt, nodeAt}
 use Rattle.judge.specs.declared.nodes.Job.{Job}
 use Rattle.packing.specs.Numbers.{lentUsed}
-use Rattle.sheet.specs.Facts.{automatonAt, nodeAt}
 use borrow.Author.Needs.{needs}
 use denote.Ref.{now}
 use lib.ListN.{getD, length, length-set}

@@ -1,5 +1,4 @@
 -- `may_cut` meets its contract, ahead and back. Assumes nothing.
-use Rattle.aldlf.specs.declared.Way.{Way}
 use Rattle.judge.specs.Nodes.{mayCut}
 use borrow.Author.Needs.{needs}
 use mathlib.Core.Path.{ap, sym}

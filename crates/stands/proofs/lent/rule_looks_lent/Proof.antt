@@ -9,7 +9,6 @@ use Rattle.sheet.specs.Given.{wellFormed}
 use Rattle.sheet.specs.Facts.{Lent}
 use Rattle.sheet.proofs.Asked.{yes-is, no-is}
 use Rattle.sheet.proofs.Facts.{table-facts}
-use Rattle.stands.specs.Trimmed.{ruleTable}
 use Rattle.stands.proofs.Request.{looks-no, looks-yes}
 use Rattle.stands.proofs.lent.rule_looks_lent.Statement.{statement}
 use Rattle.stands.proofs.lent.rule_looks_lent.Tie as tie

@@ -1,9 +1,8 @@
 -- `looks_in` meets its contract: the ways of the lines passed are found. Assumes nothing.
-use Prim.Native.Nat.{ℕ, _-_, _≤_, _<_}
+use Prim.Native.Nat.{ℕ, _-_, _≤_}
 use native.Mathlib.Omega.{arith}
 use mathlib.Core.Path.{_≡_, refl, ap, subst, _∙_}
 use lib.ListN.{length}
-use denote.Ref.{now}
 use borrow.Author.Needs.{needs}
 use Rattle.aldlf.specs.Constants.{automatonLimit}
 use Rattle.aldlf.specs.Sheet.{sheetOf}

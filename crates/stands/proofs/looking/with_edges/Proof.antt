@@ -1,8 +1,8 @@
 -- `with_edges` meets its contract: the ways of the edges passed are found. Assumes nothing.
 use Prim.Native.Nat.{ℕ, _+_, _-_, _≤_, _<_}
 use native.Mathlib.Omega.{arith}
-use mathlib.Core.Path.{_≡_, sym, ap, _∙_}
-use mathlib.Core.Bool.{Bool, true, false, _||_}
+use mathlib.Core.Path.{_≡_, ap, _∙_}
+use mathlib.Core.Bool.{_||_}
 use denote.Ref.{now}
 use borrow.Author.Needs.{needs}
 use Rattle.aldlf.specs.Constants.{edgeLimit}

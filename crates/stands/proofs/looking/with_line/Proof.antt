@@ -1,5 +1,5 @@
 -- `with_line` meets its contract: an automaton that was asked already gives nothing new. Assumes nothing.
-use Prim.Native.Nat.{ℕ, _+_, _≤_, _<_}
+use Prim.Native.Nat.{_+_, _≤_, _<_}
 use native.Mathlib.Omega.{arith}
 use mathlib.Core.Path.{_≡_, refl, sym, subst, _∙_}
 use mathlib.Core.Logic.{_⊎_}
@@ -12,7 +12,7 @@ use Rattle.aldlf.specs.declared.NodeLine.{NodeLine}
 use Rattle.aldlf.specs.declared.Table.{Table}
 use Rattle.aldlf.specs.declared.Used.{Used}
 use Rattle.aldlf.proofs.Letters.{either-letter, neither-letter}
-use Rattle.sheet.specs.Facts.{nodeAt, automatonAt, Lent}
+use Rattle.sheet.specs.Facts.{nodeAt, Lent}
 use Rattle.stands.proofs.MarkLaws.{line-in, line-read}
 use Rattle.stands.proofs.LookLaws.{with-modal, with-none, edges-ways, asked-next}
 use Rattle.stands.proofs.looking.with_line.Statement.{statement}

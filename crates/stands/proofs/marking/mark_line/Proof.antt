@@ -10,7 +10,6 @@ use borrow.Author.Needs.{needs}
 use Rattle.aldlf.specs.Constants.{nodeLimit, letterA, letterO, letterD, letterB}
 use Rattle.aldlf.specs.Sheet.{Line, lineOf, sheetOf}
 use Rattle.aldlf.specs.Stands.{markLine}
-use Rattle.aldlf.specs.declared.NodeLine.{NodeLine}
 use Rattle.aldlf.specs.declared.Table.{Table}
 use Rattle.aldlf.specs.declared.Used.{Used}
 use Rattle.aldlf.proofs.Letters.{either-letter, neither-letter}

@@ -1,7 +1,7 @@
 -- `nodes_of_rule` meets its contract: the rule is marked, then all that is named. Assumes nothing.
 use Prim.Native.Nat.{ℕ, _-_, _≤_}
 use native.Mathlib.Omega.{arith}
-use mathlib.Core.Path.{_≡_, refl, ap, _∙_}
+use mathlib.Core.Path.{refl, ap, _∙_}
 use mathlib.Core.Bool.{true, false}
 use lib.ListN.{set, replicate, length-set}
 use borrow.Author.Needs.{needs}

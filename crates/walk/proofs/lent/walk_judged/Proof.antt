@@ -12,8 +12,7 @@ use Rattle.aldlf.specs.declared.NodeLine.{NodeLine}
 use Rattle.aldlf.specs.declared.Table.{Table}
 use Rattle.aldlf.specs.declared.Used.{Used}
 use Rattle.packing.specs.Numbers.{lentEdge}
-use Rattle.sheet.specs.Facts.{nodeAt, automatonAt}
-use Rattle.sheet.specs.Facts.{Lent}
+use Rattle.sheet.specs.Facts.{nodeAt, automatonAt, Lent}
 use Rattle.graph.specs.Arcs.{Chained, none}
 use Rattle.graph.specs.Configurations.{graphOf, startOf, EdgeFits, Ready}
 use Rattle.shortest.specs.Goals.{GoalAt, Asked}
