@@ -1,4 +1,5 @@
 pub mod MarkLaws
+pub mod LentLaws
 pub mod TrimLaws
 pub mod LookLaws
 pub mod Request

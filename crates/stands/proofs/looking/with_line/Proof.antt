@@ -2,47 +2,42 @@
 use Prim.Native.Nat.{_+_, _≤_, _<_}
 use native.Mathlib.Omega.{arith}
 use mathlib.Core.Path.{_≡_, refl, sym, subst, _∙_}
-use mathlib.Core.Logic.{_⊎_}
 use denote.Ref.{now}
 use borrow.Author.Needs.{needs}
 use Rattle.aldlf.specs.Constants.{nodeLimit, automatonLimit, edgeLimit, letterD, letterB}
 use Rattle.aldlf.specs.Sheet.{lineOf, sheetOf}
 use Rattle.aldlf.specs.declared.Automaton.{Automaton}
-use Rattle.aldlf.specs.declared.NodeLine.{NodeLine}
 use Rattle.aldlf.specs.declared.Table.{Table}
-use Rattle.aldlf.specs.declared.Used.{Used}
 use Rattle.aldlf.proofs.Letters.{either-letter, neither-letter}
+use Rattle.packing.specs.Numbers.{lentUsed}
+use Rattle.stands.specs.Marking.{LineIn}
 use Rattle.sheet.specs.Facts.{nodeAt, Lent}
-use Rattle.stands.proofs.MarkLaws.{line-in, line-read}
+use Rattle.stands.proofs.LentLaws.{node-few, line-lent, line-named, automaton-used, automaton-few}
+use Rattle.stands.proofs.MarkLaws.{line-read}
 use Rattle.stands.proofs.LookLaws.{with-modal, with-none, edges-ways, asked-next}
 use Rattle.stands.proofs.looking.with_line.Statement.{statement}
 use Rattle.stands.proofs.looking.with_line.Tie as tie
 
--- the node is in use
-in-use : (S : tie.Start) (t : Table) → Lent t (now (S .args .numbers)) → S .args .node .0 < t .used .nodes
-in-use S t L = subst (λ (u : Used). S .args .node .0 < u .nodes) (L .packed .used-is) (S .pre .1 .0 .1)
-
 few : (S : tie.Start) → S .args .node .0 < nodeLimit
-few S = omega (arith, in-use S (S .pre .0 .0) (S .pre .0 .1), S .pre .0 .1 .facts .nodes≤)
+few S = node-few (S .pre .0 .0) (now (S .args .numbers)) (S .pre .0 .1) (S .args .node .0) (S .pre .1 .0 .1)
 
--- its line is the one that was read
+-- the line that was read is the node's
 read : (c : tie.After-line-at) → let S = c .before .before .before in (t : Table) → Lent t (now (S .args .numbers)) → c .line-at .result ≡ nodeAt t (S .args .node .0)
-read c t L = let S = c .before .before .before in c .line-at .ensures ∙ L .packed .line-is (S .args .node .0) (few S)
+read c t L = let S = c .before .before .before in c .line-at .ensures ∙ line-lent t (now (S .args .numbers)) L (S .args .node .0) (S .pre .1 .0 .1)
 
 -- and so is the sheet's line
 line-is : (c : tie.After-line-at) → let S = c .before .before .before in let x = c .line-at .result in (t : Table) → Lent t (now (S .args .numbers)) → lineOf (x .kind) (x .a) (x .b) ≡ sheetOf t .line (S .args .node .0)
 line-is c t L = line-read t (c .before .before .before .args .node .0) (c .line-at .result) (read c t L)
 
 -- the automaton of a D or B line is in use
-there : (c : tie.Then1) → let S = c .before .before .before .before in (t : Table) → Lent t (now (S .args .numbers)) → c .before .line-at .result .a < t .used .automata
-there c t L =
+there : (c : tie.Then1) → let S = c .before .before .before .before in c .before .line-at .result .a < lentUsed (now (S .args .numbers)) .automata
+there c =
     let S = c .before .before .before .before in
-    let e = read (c .before) t L in
-    let q = either-letter _ letterD letterB (c .if1 .taken) in
-    subst (λ (x : NodeLine). (x .kind ≡ letterD) ⊎ (x .kind ≡ letterB) → x .a < t .used .automata) (sym e) (λ z. line-in t (L .facts) (S .args .node .0) (in-use S t L) .modal z .0) q
+    subst (LineIn (lentUsed (now (S .args .numbers)) .automata)) (sym (c .before .line-at .ensures)) (line-named (S .pre .0 .0) (now (S .args .numbers)) (S .pre .0 .1) (S .args .node .0) (S .pre .1 .0 .1))
+    .modal (either-letter _ letterD letterB (c .if1 .taken)) .0
 
 named : (c : tie.Then1) → c .before .line-at .result .a < automatonLimit
-named c = let S = c .before .before .before .before in omega (arith, there c (S .pre .0 .0) (S .pre .0 .1), S .pre .0 .1 .facts .automata≤)
+named c = let S = c .before .before .before .before in automaton-few (S .pre .0 .0) (now (S .args .numbers)) (S .pre .0 .1) (c .before .line-at .result .a) (there c)
 
 line-at-requires : tie.Need-line-at-requires
 line-at-requires c κs = let S = c .before .before in (S .pre .0 .1 .packed .size, few S)
@@ -76,7 +71,7 @@ with-edges-requires c κs =
     let S = c .before .before .before .before .before .before .before in
     let L = S .pre .0 .1 in
     let m = c .before .before .before .before .line-at .result .a in
-    let a = L .facts .automaton m (there (c .before .before .before) (S .pre .0 .0) L) in
+    let a = L .facts .automaton m (automaton-used (S .pre .0 .0) (now (S .args .numbers)) L m (there (c .before .before .before))) in
     (L .packed .size, subst (λ (x : Automaton). x .first + x .count ≤ edgeLimit) (sym (c .automaton-at .ensures ∙ L .packed .automaton-is m (named (c .before .before .before)))) (omega (arith, a .edges≤, L .facts .edges≤)))
 
 same-length : tie.Need-same-length

@@ -9,24 +9,24 @@ use Rattle.aldlf.specs.Sheet.{sheetOf}
 use Rattle.aldlf.specs.Stands.{markTests}
 use Rattle.aldlf.specs.declared.Automaton.{Automaton}
 use Rattle.aldlf.specs.declared.Table.{Table}
-use Rattle.aldlf.specs.declared.Used.{Used}
 use Rattle.packing.specs.Numbers.{lentAutomaton}
 use Rattle.sheet.specs.Facts.{automatonAt, Lent}
 use Rattle.stands.specs.Marking.{TestsIn}
+use Rattle.stands.proofs.LentLaws.{automaton-used, automaton-few, automaton-lent}
 use Rattle.stands.proofs.MarkLaws.{automaton-idle, automaton-marked, tests-in, tests-inside}
 use Rattle.stands.proofs.marking.mark_automaton.Statement.{statement}
 use Rattle.stands.proofs.marking.mark_automaton.Tie as tie
 
 -- the automaton is in use
-in-use : (S : tie.Start) → (t : Table) → Lent t (now (S .args .numbers)) → S .args .m < t .used .automata
-in-use S t L = subst (λ (u : Used). S .args .m < u .automata) (L .packed .used-is) (S .pre .1 .0 .2)
-
 few : (S : tie.Start) → S .args .m < automatonLimit
-few S = omega (arith, in-use S (S .pre .0 .0) (S .pre .0 .1), S .pre .0 .1 .facts .automata≤)
+few S = automaton-few (S .pre .0 .0) (now (S .args .numbers)) (S .pre .0 .1) (S .args .m) (S .pre .1 .0 .2)
 
 -- and is the one that was read
-read : (S : tie.Start) (x : Automaton) → x ≡ lentAutomaton (now (S .args .numbers)) (S .args .m) → (t : Table) → Lent t (now (S .args .numbers)) → x ≡ automatonAt t (S .args .m)
-read S x e t L = e ∙ L .packed .automaton-is (S .args .m) (few S)
+read : (S : tie.Start) (t : Table) → Lent t (now (S .args .numbers)) → lentAutomaton (now (S .args .numbers)) (S .args .m) ≡ automatonAt t (S .args .m)
+read S t L = automaton-lent t (now (S .args .numbers)) L (S .args .m) (S .pre .1 .0 .2)
+
+in-use : (S : tie.Start) (t : Table) → Lent t (now (S .args .numbers)) → S .args .m < t .used .automata
+in-use S t L = automaton-used t (now (S .args .numbers)) L (S .args .m) (S .pre .1 .0 .2)
 
 slice-read-if1 : tie.Need-slice-read-if1
 slice-read-if1 c = omega (arith, few (c .before .before .before .before), c .before .before .before .before .pre .1 .0 .1)
@@ -44,7 +44,7 @@ mark-tests-requires : tie.Need-mark-tests-requires
 mark-tests-requires c κs =
     let S = c .before .before .before .before .before .before .before in
     let L = S .pre .0 .1 in
-    (subst (TestsIn (now (S .args .numbers))) (sym (read S _ (c .before .automaton-at .ensures) (S .pre .0 .0) L)) (tests-in (S .pre .0 .0) (now (S .args .numbers)) L (S .args .m) (in-use S (S .pre .0 .0) L)), S .pre .1 .0 .0)
+    (subst (TestsIn (now (S .args .numbers))) (sym (c .before .automaton-at .ensures ∙ read S (S .pre .0 .0) L)) (tests-in (S .pre .0 .0) (now (S .args .numbers)) L (S .args .m) (in-use S (S .pre .0 .0) L)), S .pre .1 .0 .0)
 
 same-length : tie.Need-same-length
 same-length c = search needs
@@ -58,7 +58,7 @@ returns-2 c =
     let S = c .before .before .before .before .before .before .before .before .before .before in
     λ t L.
     automaton-marked (sheetOf t) (S .args .m) (now (S .args .flags)) (now (S .args .taken)) (S .pre .1 .1 t L) _
-    (c .before .before .mark-tests .ensures t (L .packed) ∙ ap (λ (x : Automaton). markTests (sheetOf t) (x .first) (x .count) (now (S .args .flags))) (read S _ (c .before .before .before .before .automaton-at .ensures) t L))
+    (c .before .before .mark-tests .ensures t (L .packed) ∙ ap (λ (x : Automaton). markTests (sheetOf t) (x .first) (x .count) (now (S .args .flags))) (c .before .before .before .before .automaton-at .ensures ∙ read S t L))
     (λ e z. omega (arith, tests-inside t (now (S .args .numbers)) L (S .args .m) (in-use S t L) e z, S .pre .1 .0 .0))
 
 pub mark-automaton-spec : {M : Type 1} → statement M

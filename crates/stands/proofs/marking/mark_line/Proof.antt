@@ -11,33 +11,27 @@ use Rattle.aldlf.specs.Constants.{nodeLimit, letterA, letterO, letterD, letterB
 use Rattle.aldlf.specs.Sheet.{Line, lineOf, sheetOf}
 use Rattle.aldlf.specs.Stands.{markLine}
 use Rattle.aldlf.specs.declared.Table.{Table}
-use Rattle.aldlf.specs.declared.Used.{Used}
 use Rattle.aldlf.proofs.Letters.{either-letter, neither-letter}
 use Rattle.packing.specs.Numbers.{lentUsed}
 use Rattle.sheet.specs.Facts.{nodeAt, Lent}
 use Rattle.stands.specs.Marking.{Marked, LineIn}
-use Rattle.stands.proofs.MarkLaws.{line-marked, operand-taken, marks-not, marks-both, modal-marked, marks-none, line-in, line-read}
+use Rattle.stands.proofs.LentLaws.{node-few, line-lent, line-named}
+use Rattle.stands.proofs.MarkLaws.{line-marked, operand-taken, marks-not, marks-both, modal-marked, marks-none, line-read}
 use Rattle.stands.proofs.marking.mark_line.Statement.{statement}
 use Rattle.stands.proofs.marking.mark_line.Tie as tie
 
--- the node is in use
-in-use : (S : tie.Start) (t : Table) → Lent t (now (S .args .numbers)) → S .args .node .0 < t .used .nodes
-in-use S t L = subst (λ (u : Used). S .args .node .0 < u .nodes) (L .packed .used-is) (S .pre .1 .0 .2)
-
 few : (S : tie.Start) → S .args .node .0 < nodeLimit
-few S = omega (arith, in-use S (S .pre .0 .0) (S .pre .0 .1), S .pre .0 .1 .facts .nodes≤)
+few S = node-few (S .pre .0 .0) (now (S .args .numbers)) (S .pre .0 .1) (S .args .node .0) (S .pre .1 .0 .2)
 
--- its line is the one that was read
+-- the line that was read is the node's
 read : (c : tie.After-line-at) → let S = c .before .before .before .before in (t : Table) → Lent t (now (S .args .numbers)) → c .line-at .result ≡ nodeAt t (S .args .node .0)
-read c t L = let S = c .before .before .before .before in c .line-at .ensures ∙ L .packed .line-is (S .args .node .0) (few S)
+read c t L = let S = c .before .before .before .before in c .line-at .ensures ∙ line-lent t (now (S .args .numbers)) L (S .args .node .0) (S .pre .1 .0 .2)
 
 -- and names what is within the limits
 named : (c : tie.After-line-at) → LineIn (lentUsed (now (c .before .before .before .before .args .numbers)) .automata) (c .line-at .result)
 named c =
     let S = c .before .before .before .before in
-    let t = S .pre .0 .0 in
-    let L = S .pre .0 .1 in
-    subst (λ (u : Used). LineIn (u .automata) (c .line-at .result)) (sym (L .packed .used-is)) (subst (LineIn (t .used .automata)) (sym (read c t L)) (line-in t (L .facts) (S .args .node .0) (in-use S t L)))
+    subst (LineIn (lentUsed (now (S .args .numbers)) .automata)) (sym (c .line-at .ensures)) (line-named (S .pre .0 .0) (now (S .args .numbers)) (S .pre .0 .1) (S .args .node .0) (S .pre .1 .0 .2))
 
 -- the marks of the line that was read are those of the sheet's
 as-read : (c : tie.After-line-at) → let S = c .before .before .before .before in let x = c .line-at .result in (t : Table) → Lent t (now (S .args .numbers)) → (q : List Bool)

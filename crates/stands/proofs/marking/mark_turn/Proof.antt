@@ -1,19 +1,18 @@
 -- `mark_turn` meets its contract: a node that is not marked is passed over. Assumes nothing.
 use Prim.Native.Nat.{_<_}
 use native.Mathlib.Omega.{arith}
-use mathlib.Core.Path.{subst}
 use denote.Ref.{now}
 use borrow.Author.Needs.{needs}
 use borrow.Author.Tests.{not-true, not-false}
 use Rattle.aldlf.specs.Constants.{nodeLimit}
 use Rattle.aldlf.specs.Sheet.{sheetOf}
-use Rattle.aldlf.specs.declared.Used.{Used}
+use Rattle.stands.proofs.LentLaws.{node-few}
 use Rattle.stands.proofs.MarkLaws.{turn-skips, turn-marks}
 use Rattle.stands.proofs.marking.mark_turn.Statement.{statement}
 use Rattle.stands.proofs.marking.mark_turn.Tie as tie
 
 few : (S : tie.Start) → S .args .node .0 < nodeLimit
-few S = let L = S .pre .0 .1 in omega (arith, subst (λ (u : Used). S .args .node .0 < u .nodes) (L .packed .used-is) (S .pre .1 .0 .2), L .facts .nodes≤)
+few S = node-few (S .pre .0 .0) (now (S .args .numbers)) (S .pre .0 .1) (S .args .node .0) (S .pre .1 .0 .2)
 
 cast-if1 : tie.Need-cast-if1
 cast-if1 c = search needs
