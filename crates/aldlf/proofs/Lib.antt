@@ -1,3 +1,4 @@
+pub mod Spares
 pub mod Bools
 pub mod Reach
 pub mod Grid

@@ -2,7 +2,7 @@
 use Prim.Native.Nat.{ℕ, zero, suc, _≤_, _<_}
 use native.Mathlib.Omega.{arith}
 use mathlib.Core.Path.{_≡_, refl, sym, subst, ap, ap₂, _∙_}
-use mathlib.Core.Logic.{_⊎_, inl, inr, _↔_, Iff·trans}
+use mathlib.Core.Logic.{_⊎_, inl, inr}
 use mathlib.Core.Bool.{Bool, true, false, cond, not, _&&_, _||_, false≢true}
 use mathlib.Core.List.{List, [], _∷_}
 use lib.Dec.{eqb}
@@ -11,12 +11,12 @@ use borrow.Author.Tests.{eqb-true}
 use Rattle.aldlf.specs.Constants.{nodeLimit, stateLimit}
 use Rattle.aldlf.specs.Sheet.{Sheet, Line, T, F, P, N, A, O, D, B, byMode, bit}
 use Rattle.aldlf.specs.Stands.{Tests, Names, EdgeOf, stands, ruleSheet}
-use Rattle.aldlf.specs.Parts.{Bits, HoldsIn, rowEntry, counts, looksOnly, Sound}
+use Rattle.aldlf.specs.Parts.{Bits, rowEntry, counts, looksOnly, Sound}
 use Rattle.aldlf.specs.Verdict.{facing, goal, modal, says, judge, saysFrom, rowOf, plain, plainLine, verdict}
 use Rattle.aldlf.specs.Outcomes.{partWords}
 use Rattle.aldlf.specs.declared.Way.{Way}
-use Rattle.aldlf.proofs.Bools.{bool-cases, lt-or-le, eq-iff, and-left}
-use Rattle.aldlf.proofs.Agree.{entry-in, judge-iff}
+use Rattle.aldlf.proofs.Bools.{bool-cases, lt-or-le, and-left}
+use Rattle.aldlf.proofs.Agree.{entry-in}
 use Rattle.aldlf.proofs.Cut.{Allowed}
 use Rattle.aldlf.proofs.Across.{reached-across}
 use Rattle.aldlf.proofs.Same.{judge-same, rowOf-same}
@@ -181,12 +181,6 @@ module _ (S : Sheet) (sound : Sound S) (log : List ℕ) (ρ : Bits) where
       go : (stands S k ≡ true) ⊎ (stands S k ≡ false) → judge R log ρ (suc k) k i ≡ stands S k && judge S log ρ (suc k) k i
       go (inl o) = rule-judge (suc k) k i o l ∙ sym (ap (λ (b : Bool). b && judge S log ρ (suc k) k i) o)
       go (inr o) = other-judge (suc k) k i o ∙ sym (ap (λ (b : Bool). b && judge S log ρ (suc k) k i) o)
-
-  -- the same in the words of the meaning
-  pub rule-holds-in : (k i : ℕ) → stands S k ≡ true → i < length log → HoldsIn R log ρ k i ↔ HoldsIn S log ρ k i
-  rule-holds-in k i o l =
-      let j = judge-iff R log ρ (suc k) k i l in
-      Iff·trans (j .1, j .0) (Iff·trans (eq-iff _ _ (rule-judge (suc k) k i o l)) (judge-iff S log ρ (suc k) k i l))
 
 -- Rows ---------------------------------------------------------------------------------------------------------------------------
 

@@ -270,11 +270,6 @@ module _ (S : Sheet) where
       go z (inl q) = named (f n (q .0)) (q .1)
       go z (inr q) = f z q
 
--- a flag for each node that a sheet may have
-pub stands-length : (S : Sheet) → length (standsOf S) ≡ nodeLimit
-unfolding standsOf
-stands-length S = from-length S (S .nodes) (mark (S .nodes - 1) (replicate nodeLimit false)) ∙ length-set (replicate nodeLimit false) (S .nodes - 1) true ∙ length-replicate nodeLimit false
-
 -- THE FLAGS ----------------------------------------------------------------------------------------------------------------------
 
 module _ (S : Sheet) (sound : Sound S) where

@@ -79,6 +79,15 @@ abbrev pub spare : Table
 spare =
     table (node letterT 0 0 ∷ node letterP 1 0 ∷ node letterD 1 1 ∷ node letterD 0 1 ∷ []) (automaton 1 0 1 0 1 2 ∷ automaton 1 0 1 1 1 2 ∷ []) (edge 0 1 0 0 ∷ edge 0 2 0 0 ∷ [])
 
+-- A rule that stands on a node through another: `P,0` `N,0` `N,1`.
+abbrev pub chain : Table
+chain = table (node letterP 0 0 ∷ node letterN 0 0 ∷ node letterN 1 0 ∷ []) [] []
+
+-- A rule that looks back by what a test edge of its automaton tests: `T` `M,1,0` `G,0` `E,0,2,0,0` `D,0,0` `M,1,0` `G,0` `E,0,0,1,0` `D,1,0`.
+abbrev pub tested : Table
+tested =
+    table (node letterT 0 0 ∷ node letterD 0 0 ∷ node letterD 1 0 ∷ []) (automaton 1 0 1 0 1 1 ∷ automaton 1 0 1 1 1 2 ∷ []) (edge 0 2 0 0 ∷ edge 0 0 1 0 ∷ [])
+
 -- Jobs -------------------------------------------------------------------------------------------------------------------------
 
 -- A buffer as it is lent: n places and two more, all 9.

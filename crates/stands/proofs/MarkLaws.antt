@@ -7,7 +7,7 @@ use mathlib.Core.Logic.{_⊎_, inl, inr}
 use mathlib.Core.Bool.{Bool, true, false, cond}
 use mathlib.Core.List.{List}
 use lib.Dec.{eqb}
-use lib.ListN.{length, getD, set, replicate}
+use lib.ListN.{length, getD, set}
 use lib.Seq.{getD-set-other, set-getD}
 use borrow.Author.Tests.{eqb-true, eqb-false}
 use Rattle.aldlf.specs.Constants.{nodeLimit, edgeLimit, letterN, letterA, letterO, letterD, letterB}
@@ -18,7 +18,7 @@ use Rattle.aldlf.specs.declared.Edge.{Edge}
 use Rattle.aldlf.specs.declared.NodeLine.{NodeLine}
 use Rattle.aldlf.proofs.Bools.{bool-cases}
 use Rattle.aldlf.proofs.Letters.{by-letter}
-use Rattle.aldlf.proofs.Stands.{On, no-flag, mark-keeps, tests-keep, tests-here, line-keeps}
+use Rattle.aldlf.proofs.Stands.{On, mark-keeps, tests-keep, tests-here, line-keeps}
 use Rattle.sheet.specs.Facts.{nodeAt, automatonAt, TableFacts, Lent}
 use Rattle.stands.specs.Marking.{Taken, Marked, turned, TestsIn, LineIn}
 
@@ -156,7 +156,3 @@ tests-in t numbers L m l =
 pub tests-inside : (t : Table) (numbers : List ℕ) → Lent t numbers → (m : ℕ) → m < t .used .automata → (e : ℕ) → EdgeOf (sheetOf t) m e → sheetOf t .edge e .test < nodeLimit
 unfolding sheetOf
 tests-inside t numbers L m l e z = let a = L .facts .automaton m l in omega (arith, a .edge e (z .0) (z .1) .test<, a .before<, L .facts .nodes≤)
-
--- at first no automaton is taken
-pub none-taken : (S : Sheet) (p : List Bool) (n : ℕ) → Taken S p (replicate n false)
-none-taken S p n m o x z = absurd (no-flag n m o)

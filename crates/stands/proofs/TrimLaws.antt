@@ -18,7 +18,7 @@ use Rattle.aldlf.proofs.Bools.{bool-cases}
 use Rattle.packing.specs.Numbers.{places, lineIn, edgeIn, lentAutomaton, lentUsed}
 use Rattle.packing.specs.Packed.{Packed}
 use Rattle.sheet.specs.Facts.{nodeAt, automatonAt, NodeFacts, AutomatonFacts, TableFacts, Lent}
-use Rattle.stands.specs.Trimmed.{kept, trimmed, ruleTable}
+use Rattle.stands.specs.Trimmed.{kept, trimmed, ruleTable, Trimming}
 
 kept-length : (p : List Bool) (xs : List NodeLine) → length (kept p xs) ≡ length xs
 kept-length p [] = refl
@@ -47,13 +47,6 @@ copied-next xs ys i l e j b = go (bool-cases (eqb j i))
     go (inr q) = let ne : ¬ (j ≡ i) = eqb-false j i q in getD-set-other ys i j (getD xs i 0) 0 ne ∙ e j (omega arith)
 
 -- The numbers ---------------------------------------------------------------------------------------------------------------------
-
--- of the first k nodes the lines that are not kept are 0, and nothing else has changed
-pub record Trimming (p : List Bool) (before after : List ℕ) (k : ℕ) : Type 0 where
-  pub size : length after ≡ places
-  pub done : (j : ℕ) → j < k → getD after (256 + j) 0 ≡ cond (getD p j false) (getD before (256 + j) 0) 0
-  pub low : (i : ℕ) → i < 256 → getD after i 0 ≡ getD before i 0
-  pub high : (i : ℕ) → 256 + k ≤ i → getD after i 0 ≡ getD before i 0
 
 pub trimming-none : (p : List Bool) (before : List ℕ) → length before ≡ places → Trimming p before before 0
 trimming-none p before e = record { size = e; done = λ j l. absurd (omega arith); low = λ i l. refl; high = λ i l. refl }

@@ -1,10 +1,14 @@
 -- The table of the sheet that parts judge: nothing stands at the nodes that the rule does not stand on.
-use mathlib.Core.Bool.{Bool, cond}
+use Prim.Native.Nat.{ℕ, _+_, _≤_, _<_}
+use mathlib.Core.Path.{_≡_}
+use mathlib.Core.Bool.{Bool, false, cond}
 use mathlib.Core.List.{List, [], _∷_}
+use lib.ListN.{getD, length}
 use Rattle.aldlf.specs.Sheet.{noLine, sheetOf}
 use Rattle.aldlf.specs.Stands.{standsOf}
 use Rattle.aldlf.specs.declared.NodeLine.{NodeLine}
 use Rattle.aldlf.specs.declared.Table.{Table}
+use Rattle.packing.specs.Numbers.{places}
 
 -- A line stays where its flag is set; past the flags none is.
 abbrev pub kept : List Bool → List NodeLine → List NodeLine
@@ -19,3 +23,10 @@ trimmed t p = record { nodes = kept p (t .nodes); automata = t .automata; edges 
 -- The table with the lines of the nodes that its rule stands on.
 abbrev pub ruleTable : Table → Table
 ruleTable t = trimmed t (standsOf (sheetOf t))
+
+-- On the way, in the numbers: of the first k nodes the lines that are not kept are 0, and nothing else has changed.
+pub record Trimming (p : List Bool) (before after : List ℕ) (k : ℕ) : Type 0 where
+  pub size : length after ≡ places
+  pub done : (j : ℕ) → j < k → getD after (256 + j) 0 ≡ cond (getD p j false) (getD before (256 + j) 0) 0
+  pub low : (i : ℕ) → i < 256 → getD after i 0 ≡ getD before i 0
+  pub high : (i : ℕ) → 256 + k ≤ i → getD after i 0 ≡ getD before i 0

@@ -58,7 +58,7 @@ loop-again c =
       r .kept .1 .1 .1 .0 ∙ l .inv .2,
       λ t L.
           let M = r .ensures t L in
-          (M .taken-are, from-next (sheetOf t) (l .k) (l .flags) _ (c .before .before .before .before .before .before .before .loop-test .taken) (M .flags-are) ∙ l .inv .3 t L .1),
+          (M .taken-are, from-next (sheetOf t) (l .k) (l .flags) _ (omega (arith, c .before .before .before .before .before .before .before .loop-test .taken)) (M .flags-are) ∙ l .inv .3 t L .1),
     )
 
 same-length : tie.Need-same-length Inv-loop μ-loop

@@ -9,7 +9,7 @@ use Rattle.aldlf.specs.Constants.{nodeLimit, automatonLimit}
 use Rattle.aldlf.specs.Sheet.{sheetOf}
 use Rattle.aldlf.specs.Stands.{standsFrom, standsOf}
 use Rattle.aldlf.specs.declared.Used.{Used}
-use Rattle.stands.proofs.MarkLaws.{none-taken}
+use Rattle.aldlf.proofs.Stands.{no-flag}
 use Rattle.stands.proofs.marking.nodes_of_rule.Statement.{statement}
 use Rattle.stands.proofs.marking.nodes_of_rule.Tie as tie
 
@@ -42,7 +42,7 @@ slice-aggregate-mark-all-2 c = search needs
 mark-all-requires : tie.Need-mark-all-requires
 mark-all-requires c κs =
     let S = c .before .before .before .before .before in
-    (S .pre, ((length-set (replicate nodeLimit false) (c .before .before .before .used-in .result .nodes - 1) true, refl), λ t L. none-taken (sheetOf t) (set (replicate nodeLimit false) (c .before .before .before .used-in .result .nodes - 1) true) automatonLimit))
+    (S .pre, ((simp length-set, refl), λ t L m o x z. absurd (no-flag automatonLimit m o)))
 
 returns : tie.Need-returns
 unfolding sheetOf standsOf

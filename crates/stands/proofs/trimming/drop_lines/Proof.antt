@@ -5,7 +5,8 @@ use mathlib.Core.Path.{_≡_, sym, subst, _∙_}
 use denote.Ref.{now}
 use borrow.Author.Needs.{needs}
 use Rattle.aldlf.specs.Constants.{nodeLimit}
-use Rattle.stands.proofs.TrimLaws.{Trimming, trimming-none, trimming-next, trimming-all}
+use Rattle.stands.specs.Trimmed.{Trimming}
+use Rattle.stands.proofs.TrimLaws.{trimming-none, trimming-next, trimming-all}
 use Rattle.stands.proofs.trimming.drop_lines.Statement.{statement}
 use Rattle.stands.proofs.trimming.drop_lines.Tie as tie
 
