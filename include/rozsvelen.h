@@ -25,8 +25,10 @@
 extern "C" {
 #endif
 
-#define ROZSVELEN_TABLE 1315   /* numbers of a table */
-#define ROZSVELEN_ROW 64       /* numbers of a row, one for each node */
+#define ROZSVELEN_TABLE 1507   /* numbers of a table */
+#define ROZSVELEN_NODES 128    /* at most so many nodes stand on a sheet */
+#define ROZSVELEN_ROW 128      /* numbers of a row, one for each node */
+#define ROZSVELEN_WORDS 2      /* verdict words of an entry */
 #define ROZSVELEN_ENTRIES 512  /* at most so many entries are judged at once */
 #define ROZSVELEN_WALK 8191    /* a buffer of so many places takes every walk */
 #define ROZSVELEN_PAGE 40000   /* a buffer of so many bytes takes every page */
@@ -42,12 +44,18 @@ static inline uint32_t rozsvelen_extra(uint64_t answer) { return (uint32_t)(answ
 /* The log that an answer of rozsvelen_judge_logs is about, in place of line and extra: it can be 65,536, which 16 bits do not hold. */
 static inline uint32_t rozsvelen_log(uint64_t answer) { return (uint32_t)(answer >> 32); }
 
+/* The one way to read a verdict: 1 where a node, below ROZSVELEN_NODES, holds at an entry of a judged log or part, else 0. Both words of the entry
+ * are there. Of a list of logs, verdicts is where the words of the entry's own log begin. */
+static inline int rozsvelen_verdict(const uint64_t *verdicts, size_t entry, uint32_t node) {
+    return (int)(verdicts[ROZSVELEN_WORDS * entry + node / 64] >> node % 64 & 1);
+}
+
 /* Reads a rule sheet's text into a table of ROZSVELEN_TABLE numbers. Questions 35, then 1 to 11. Stack: 16 KB. */
 uint64_t rozsvelen_read_sheet(const uint8_t *text, size_t text_len, uint16_t *table, size_t table_len);
 
 /* Puts the plain profile of a table, where N stands directly on a fact, into a table of ROZSVELEN_TABLE numbers: node k gives node 2k with the
  * same meaning and node 2k+1 with its opposite, and a last node repeats the rule's. Questions 35, 31, 42 (it has no more nodes than a sheet
- * may have, 64). Stack: 8 KB. */
+ * may have, 128). Stack: 8 KB. */
 uint64_t rozsvelen_profile(const uint16_t *table, size_t table_len, uint16_t *out, size_t out_len);
 
 /* Counts 1 where a table is in the plain profile, each N line of it naming a fact's line; else 0. Question 31. Stack: 8 KB. */
@@ -74,15 +82,18 @@ uint64_t rozsvelen_steps_between(uint16_t earlier, uint16_t later);
  * ROZSVELEN_ENTRIES entries), 30. Stack: 1 KB. */
 uint64_t rozsvelen_entry_bearing(uint16_t first, size_t entries, uint16_t counter);
 
-/* Judges a whole log: one word per entry, bit k for node k, in the first places of verdicts; counts the entries at which the rule,
- * the last node, holds. Questions 31, 32, 33. Stack: 72 KB. */
+/* Judges a whole log: ROZSVELEN_WORDS words per entry, those of entry i at 2i and 2i+1, in the first places of verdicts; counts the entries at
+ * which the rule, the last node, holds. Node k below 64 is bit k of an entry's first word, another one bit k-64 of the second; bits of nodes that
+ * are not there are 0. rozsvelen_verdict reads them. Places from twice the log's length on keep their content. Questions 31, 32, 33 (verdicts has
+ * at least twice the log's length). Stack: 72 KB. */
 uint64_t rozsvelen_judge(const uint16_t *table, size_t table_len, const uint32_t *log, size_t log_len, uint64_t *verdicts, size_t verdicts_len);
 
-/* Judges a list of logs of one sheet. Their words stand one after the other; lengths says how many entries each log has. The verdict words
- * stand likewise in the first places of verdicts, and each log's count of entries at which the rule holds in those of held. Question 31;
- * 32 of each log in turn: it is among the first 65,535, has 1 to ROZSVELEN_ENTRIES entries, and they are among the words; words left over are
- * about the log after the last; 33 of each log in turn: it has room in verdicts and in held. rozsvelen_log of a refusal is the log,
- * from 1 (31: 0). A list of no logs and no words is accepted. Stack: 72 KB. */
+/* Judges a list of logs of one sheet. Their words stand one after the other; lengths says how many entries each log has. The verdict words, two
+ * per entry, stand likewise in the first places of verdicts: a log's begin at twice the number of entries of the logs before it. Each log's count
+ * of entries at which the rule holds stands in the first places of held. Question 31; 32 of each log in turn: it is among the first 65,535, has 1
+ * to ROZSVELEN_ENTRIES entries, and they are among the words; words left over are about the log after the last; 33 of each log in turn: twice the
+ * entries up to and including it have room in verdicts, and it has room in held. rozsvelen_log of a refusal is the log, from 1 (31: 0). A list of
+ * no logs and no words is accepted. Stack: 72 KB. */
 uint64_t rozsvelen_judge_logs(const uint16_t *table, size_t table_len, const uint32_t *words, size_t words_len, const uint16_t *lengths,
                               size_t lengths_len, uint64_t *verdicts, size_t verdicts_len, uint16_t *held, size_t held_len);
 
@@ -90,10 +101,12 @@ uint64_t rozsvelen_judge_logs(const uint16_t *table, size_t table_len, const uin
  * automaton's states are set, all others are 0. Questions 35, 31. Stack: 8 KB. */
 uint64_t rozsvelen_plain_row(const uint16_t *table, size_t table_len, uint16_t *row, size_t row_len);
 
-/* Judges a part of a log, given the row of the entry just outside it, and puts the row for the next part in its place.
+/* Judges a part of a log, given the row of the entry just outside it, and puts the row for the next part in its place. The verdict words are as
+ * rozsvelen_judge has them, two per entry.
  * way: ROZSVELEN_AHEAD, parts come from the last to the first; ROZSVELEN_BACK, from the first to the last.
  * Only the nodes that the rule stands on (rozsvelen_rule_looks) are judged: the verdict bits of the others are 0, and their bits of the row are
- * ignored and put there as 0. Questions 35 (the row), 43, 31, 34 (the rule stands on no edge that goes the other way), 32, 33. Stack: 72 KB. */
+ * ignored and put there as 0. Questions 35 (the row), 43, 31, 34 (the rule stands on no edge that goes the other way), 32, 33 (verdicts has at
+ * least twice the part's length). Stack: 72 KB. */
 uint64_t rozsvelen_judge_part(const uint16_t *table, size_t table_len, uint32_t way, uint16_t *row, size_t row_len,
                               const uint32_t *words, size_t words_len, uint64_t *verdicts, size_t verdicts_len);
 

@@ -1,5 +1,6 @@
-/* What only a caller in C can do or see: the parts of an answer, empty slices at NULL, and the stack that each call takes; and numbers with
- * zeros before them, profiles, sheets with spare automata, logs with counters, steps and entries of counters, through the C calls.
+/* What only a caller in C can do or see: the parts of an answer, verdicts, empty slices at NULL, and the stack that each call takes; and numbers
+ * with zeros before them, profiles, sheets with spare automata, sheets of up to 128 nodes, logs with counters, steps and entries of counters,
+ * through the C calls.
  * Ends in 'N passed, M failed'. */
 #include "rozsvelen.h"
 
@@ -20,12 +21,12 @@ static void check(const char *name, int holds) {
 }
 
 /* The sheet of the longest walk, with a line of every letter: ahead to the last entry in one state, back to the first in the next. */
-enum { LAST = ROZSVELEN_ENTRIES - 1, SHOWN = 9 };
+enum { LAST = ROZSVELEN_ENTRIES - 1, SHOWN = 9, VERDICTS = ROZSVELEN_WORDS * ROZSVELEN_ENTRIES };
 static char rules[4096], steps[4096], counted[8192];
 static uint16_t table[ROZSVELEN_TABLE], only_ahead[ROZSVELEN_TABLE], only_back[ROZSVELEN_TABLE], made[ROZSVELEN_TABLE];
 static uint16_t row[ROZSVELEN_ROW], edges[ROZSVELEN_WALK], held[2];
 static uint32_t words[ROZSVELEN_ENTRIES], words_again[ROZSVELEN_ENTRIES];
-static uint64_t verdicts[ROZSVELEN_ENTRIES];
+static uint64_t verdicts[VERDICTS];
 static uint8_t page[ROZSVELEN_PAGE];
 static uint64_t answer;
 
@@ -61,15 +62,15 @@ static void read_log(void) { answer = rozsvelen_read_log(text(steps), strlen(ste
 static void read_counted(void) { answer = rozsvelen_read_counted(text(counted), strlen(counted), words_again, ROZSVELEN_ENTRIES); }
 static void steps_between(void) { answer = rozsvelen_steps_between(FIRST, FIRST - 1); }
 static void entry_bearing(void) { answer = rozsvelen_entry_bearing(FIRST, ROZSVELEN_ENTRIES, (uint16_t)(FIRST + LAST)); }
-static void judge(void) { answer = rozsvelen_judge(table, ROZSVELEN_TABLE, words, ROZSVELEN_ENTRIES, verdicts, ROZSVELEN_ENTRIES); }
+static void judge(void) { answer = rozsvelen_judge(table, ROZSVELEN_TABLE, words, ROZSVELEN_ENTRIES, verdicts, VERDICTS); }
 static void judge_logs(void) {
     static const uint16_t halves[] = { ROZSVELEN_ENTRIES / 2, ROZSVELEN_ENTRIES / 2 };
-    answer = rozsvelen_judge_logs(table, ROZSVELEN_TABLE, words, ROZSVELEN_ENTRIES, halves, 2, verdicts, ROZSVELEN_ENTRIES, held, 2);
+    answer = rozsvelen_judge_logs(table, ROZSVELEN_TABLE, words, ROZSVELEN_ENTRIES, halves, 2, verdicts, VERDICTS, held, 2);
 }
 static void plain_row(void) { answer = rozsvelen_plain_row(table, ROZSVELEN_TABLE, row, ROZSVELEN_ROW); }
 static void walk(void) { answer = rozsvelen_walk(table, ROZSVELEN_TABLE, words, ROZSVELEN_ENTRIES, SHOWN, 0, edges, ROZSVELEN_WALK); }
 static void judge_part(const uint16_t *sheet, uint32_t way) {
-    answer = rozsvelen_judge_part(sheet, ROZSVELEN_TABLE, way, row, ROZSVELEN_ROW, words, ROZSVELEN_ENTRIES, verdicts, ROZSVELEN_ENTRIES);
+    answer = rozsvelen_judge_part(sheet, ROZSVELEN_TABLE, way, row, ROZSVELEN_ROW, words, ROZSVELEN_ENTRIES, verdicts, VERDICTS);
 }
 static void part_ahead(void) { judge_part(only_ahead, ROZSVELEN_AHEAD); }
 static void part_back(void) { judge_part(only_back, ROZSVELEN_BACK); }
@@ -128,7 +129,7 @@ static void answer_parts(void) {
 
 /* Every slice empty and at NULL, one at a time and all at once. */
 static void empty_slices(void) {
-    enum { T = ROZSVELEN_TABLE, R = ROZSVELEN_ROW, N = ROZSVELEN_ENTRIES };
+    enum { T = ROZSVELEN_TABLE, R = ROZSVELEN_ROW, N = ROZSVELEN_ENTRIES, V = VERDICTS };
     const uint8_t *sheet = text("T\n"), *log = text("-\n");
     const uint16_t one = 1;
     const uint64_t first = (uint64_t)1 << 32;
@@ -142,18 +143,18 @@ static void empty_slices(void) {
     check("read_log into no words", rozsvelen_read_log(log, 2, NULL, 0) == refused(27));
     check("read_counted of no text", rozsvelen_read_counted(NULL, 0, words, N) == refused(22));
     check("read_counted into no words", rozsvelen_read_counted(text("7,-\n"), 4, NULL, 0) == refused(27));
-    check("judge with no table", rozsvelen_judge(NULL, 0, words, N, verdicts, N) == refused(31));
-    check("judge of no entry", rozsvelen_judge(table, T, NULL, 0, verdicts, N) == refused(32));
+    check("judge with no table", rozsvelen_judge(NULL, 0, words, N, verdicts, V) == refused(31));
+    check("judge of no entry", rozsvelen_judge(table, T, NULL, 0, verdicts, V) == refused(32));
     check("judge into no verdicts", rozsvelen_judge(table, T, words, N, NULL, 0) == refused(33));
     check("judge_logs with no table", rozsvelen_judge_logs(NULL, 0, NULL, 0, NULL, 0, NULL, 0, NULL, 0) == refused(31));
     check("judge_logs of no logs", rozsvelen_judge_logs(table, T, NULL, 0, NULL, 0, NULL, 0, NULL, 0) == 0);
-    check("judge_logs of words and no logs", rozsvelen_judge_logs(table, T, words, 1, NULL, 0, verdicts, 1, held, 1) == refused(32) + first);
+    check("judge_logs of words and no logs", rozsvelen_judge_logs(table, T, words, 1, NULL, 0, verdicts, V, held, 1) == refused(32) + first);
     check("judge_logs into no verdicts", rozsvelen_judge_logs(table, T, words, 1, &one, 1, NULL, 0, held, 1) == refused(33) + first);
-    check("judge_logs into no counts", rozsvelen_judge_logs(table, T, words, 1, &one, 1, verdicts, 1, NULL, 0) == refused(33) + first);
+    check("judge_logs into no counts", rozsvelen_judge_logs(table, T, words, 1, &one, 1, verdicts, V, NULL, 0) == refused(33) + first);
     check("plain_row with no table", rozsvelen_plain_row(NULL, 0, row, R) == refused(31));
     check("plain_row into no row", rozsvelen_plain_row(table, T, NULL, 0) == refused(35));
-    check("judge_part with no table", rozsvelen_judge_part(NULL, 0, 1, row, R, words, N, verdicts, N) == refused(31));
-    check("judge_part with no row", rozsvelen_judge_part(only_ahead, T, 1, NULL, 0, words, N, verdicts, N) == refused(35));
+    check("judge_part with no table", rozsvelen_judge_part(NULL, 0, 1, row, R, words, N, verdicts, V) == refused(31));
+    check("judge_part with no row", rozsvelen_judge_part(only_ahead, T, 1, NULL, 0, words, N, verdicts, V) == refused(35));
     check("judge_part into no verdicts", rozsvelen_judge_part(only_ahead, T, 1, row, R, words, N, NULL, 0) == refused(33));
     check("judge_part of no entry", rozsvelen_judge_part(only_ahead, T, 1, row, R, NULL, 0, NULL, 0) == 0);
     check("walk with no table", rozsvelen_walk(NULL, 0, words, N, SHOWN, 0, edges, ROZSVELEN_WALK) == refused(31));
@@ -191,6 +192,13 @@ static void check_of(const char *what, const char *sheet, int holds) {
     check(name, holds);
 }
 
+/* By a sheet of at most 64 nodes: each entry's first word is as wanted, and the second is 0. */
+static int few_nodes(const uint64_t *judged, const uint64_t *first, size_t entries) {
+    int as_wanted = 1;
+    for (size_t i = 0; i < entries; i++) as_wanted &= judged[ROZSVELEN_WORDS * i] == first[i] && judged[ROZSVELEN_WORDS * i + 1] == 0;
+    return as_wanted;
+}
+
 /* Profiles, and verdicts by them, worked by hand: of W and X of document 01, of and/or, and of an N on a D whose edge tests an N line. */
 static void profiles_made(void) {
     enum { T = ROZSVELEN_TABLE };
@@ -206,34 +214,34 @@ static void profiles_made(void) {
     };
     for (size_t i = 0; i < sizeof cases / sizeof *cases; i++) {
         uint16_t old[T], wanted[T], out[T];
-        uint64_t judged[3];
+        uint64_t judged[6] = { 7, 7, 7, 7, 7, 7 };
         table_of(cases[i].sheet, old);
         table_of(cases[i].profile, wanted);
         check_of("profile", cases[i].name, rozsvelen_profile(old, T, out, T) == 0);
         check_of("the profile's table", cases[i].name, memcmp(out, wanted, sizeof out) == 0);
-        check_of("the count held by the profile", cases[i].name, rozsvelen_judge(out, T, cases[i].log, 3, judged, 3) == cases[i].held);
-        check_of("the words by the profile", cases[i].name, memcmp(judged, cases[i].verdicts, sizeof judged) == 0);
+        check_of("the count held by the profile", cases[i].name, rozsvelen_judge(out, T, cases[i].log, 3, judged, 6) == cases[i].held);
+        check_of("the words by the profile", cases[i].name, few_nodes(judged, cases[i].verdicts, 3));
     }
 }
 
-/* By which question a profile is refused, and that nothing is altered beside it; 31 nodes are taken. */
+/* By which question a profile is refused, and that nothing is altered beside it; 63 nodes are taken. */
 static void profiles_refused(void) {
     enum { T = ROZSVELEN_TABLE };
     static const uint16_t zeros[T];
     uint16_t most[T], many[T], out[T + 1], before[T + 1];
-    char sheet[2 * 32 + 1];
-    for (int k = 0; k < 32; k++) strcpy(sheet + 2 * k, "T\n");
+    char sheet[2 * 64 + 1];
+    for (int k = 0; k < 64; k++) strcpy(sheet + 2 * k, "T\n");
     table_of(sheet, many);
     table_of(sheet + 2, most);
     memset(before, 0x5a, sizeof before);
     memcpy(out, before, sizeof out);
     check("profile of the table of zeros", rozsvelen_profile(zeros, T, out, T) == refused(31));
-    check("profile of 32 nodes", rozsvelen_profile(many, T, out, T) == refused(42));
+    check("profile of 64 nodes", rozsvelen_profile(many, T, out, T) == refused(42));
     check("profile into a number less", rozsvelen_profile(most, T, out, T - 1) == refused(35));
     check("profile into a number more", rozsvelen_profile(most, T, out, T + 1) == refused(35));
     check("profile of zeros into a number less", rozsvelen_profile(zeros, T, out, T - 1) == refused(35));
     check("profile, refused, the table lent", memcmp(out, before, sizeof out) == 0);
-    check("profile of 31 nodes", rozsvelen_profile(most, T, out, T) == 0 && out[T - 3] == 63 && out[T] == before[T]);
+    check("profile of 63 nodes", rozsvelen_profile(most, T, out, T) == 0 && out[T - 3] == 127 && out[T] == before[T]);
     check("in_profile of the table of zeros", rozsvelen_in_profile(zeros, T) == refused(31));
 }
 
@@ -259,7 +267,7 @@ static void profiles_told(void) {
 #define BACK_D "T\nP,1\nM,1,0\nG,0\nE,0,2,0,0\nD,0,1\n"
 struct spare {
     const char *name, *sheet;
-    uint64_t looks, verdicts[3];
+    uint64_t looks, verdicts[3]; /* each entry's first word, and so below */
     int counts; /* the one number of the row whose bits count, or ROW */
     uint16_t bits, before, after; /* those bits, in the plain row, and in the row that the part gives */
     uint64_t whole[3];
@@ -292,17 +300,17 @@ static void spare_part(const struct spare *s, const uint16_t *sheet, uint32_t wa
     enum { T = ROZSVELEN_TABLE };
     static const uint32_t log[3] = { 1, 2, 4 };
     uint16_t given[ROW], plain[ROW], next[ROW], got[ROW];
-    uint64_t judged[3] = { 7, 7, 7 };
+    uint64_t judged[6] = { 7, 7, 7, 7, 7, 7 };
     row_with(s, 0xffff, s->before, given);
     row_with(s, 0, s->before, plain);
     row_with(s, 0, s->after, next);
     memcpy(got, given, sizeof got);
-    check_of("a part without entries", s->name, rozsvelen_judge_part(sheet, T, way, got, ROW, NULL, 0, judged, 3) == (taken ? 0 : refused(34)));
+    check_of("a part without entries", s->name, rozsvelen_judge_part(sheet, T, way, got, ROW, NULL, 0, judged, 6) == (taken ? 0 : refused(34)));
     check_of("the row of a part without entries", s->name, memcmp(got, taken ? plain : given, sizeof got) == 0 && judged[0] == 7);
     memcpy(got, given, sizeof got);
-    check_of("a part", s->name, rozsvelen_judge_part(sheet, T, way, got, ROW, log, 3, judged, 3) == (taken ? 0 : refused(34)));
+    check_of("a part", s->name, rozsvelen_judge_part(sheet, T, way, got, ROW, log, 3, judged, 6) == (taken ? 0 : refused(34)));
     check_of("the row of a part", s->name, memcmp(got, taken ? next : given, sizeof got) == 0);
-    check_of("the words of a part", s->name, taken ? memcmp(judged, s->verdicts, sizeof judged) == 0 : judged[0] == 7 && judged[2] == 7);
+    check_of("the words of a part", s->name, taken ? few_nodes(judged, s->verdicts, 3) : judged[0] == 7 && judged[5] == 7);
 }
 
 /* Sheets with nodes that the rule does not stand on, and sheets without: which ways the rule looks, the plain row, parts both ways, and the log
@@ -312,15 +320,15 @@ static void spare_nodes(void) {
     static const uint32_t log[3] = { 1, 2, 4 };
     for (const struct spare *s = spares; s < spares + sizeof spares / sizeof *spares; s++) {
         uint16_t sheet[T], plain[ROW], got[ROW];
-        uint64_t judged[3];
+        uint64_t judged[6] = { 7, 7, 7, 7, 7, 7 };
         table_of(s->sheet, sheet);
         check_of("rule_looks", s->name, rozsvelen_rule_looks(sheet, T) == s->looks);
         row_with(s, 0, s->before, plain);
         check_of("plain_row", s->name, rozsvelen_plain_row(sheet, T, got, ROW) == 0 && memcmp(got, plain, sizeof got) == 0);
         spare_part(s, sheet, ROZSVELEN_AHEAD, s->looks == 0 || s->looks == ROZSVELEN_AHEAD);
         spare_part(s, sheet, ROZSVELEN_BACK, s->looks == 0 || s->looks == ROZSVELEN_BACK);
-        rozsvelen_judge(sheet, T, log, 3, judged, 3);
-        check_of("the words of the whole log", s->name, memcmp(judged, s->whole, sizeof judged) == 0);
+        rozsvelen_judge(sheet, T, log, 3, judged, 6);
+        check_of("the words of the whole log", s->name, few_nodes(judged, s->whole, 3));
     }
 }
 
@@ -337,11 +345,103 @@ static void rules_both_ways(void) {
         uint16_t sheet[T];
         table_of(sheets[i], sheet);
         check_of("rule_looks both ways", sheets[i], rozsvelen_rule_looks(sheet, T) == 3);
-        check_of("a part ahead", sheets[i], rozsvelen_judge_part(sheet, T, ROZSVELEN_AHEAD, row, ROW, words, 1, verdicts, 1) == refused(34));
-        check_of("a part back", sheets[i], rozsvelen_judge_part(sheet, T, ROZSVELEN_BACK, row, ROW, words, 1, verdicts, 1) == refused(34));
+        check_of("a part ahead", sheets[i], rozsvelen_judge_part(sheet, T, ROZSVELEN_AHEAD, row, ROW, words, 1, verdicts, VERDICTS) == refused(34));
+        check_of("a part back", sheets[i], rozsvelen_judge_part(sheet, T, ROZSVELEN_BACK, row, ROW, words, 1, verdicts, VERDICTS) == refused(34));
     }
     check("rule_looks of the table of zeros", rozsvelen_rule_looks(zeros, T) == refused(31));
     check("rule_looks of a number less", rozsvelen_rule_looks(table, T - 1) == refused(31));
+}
+
+/* A sheet of so many lines alike and then others. */
+static const char *behind(int count, const char *line, const char *lines) {
+    static char sheet[1024];
+    char *end = sheet;
+    for (int k = 0; k < count; k++) end += sprintf(end, "%s\n", line);
+    strcpy(end, lines);
+    return sheet;
+}
+
+/* Sheets of 64 nodes and more on logs of two entries, worked by hand: so many lines alike, then others. */
+#define ALL UINT64_MAX
+#define BIT(k) ((uint64_t)1 << (k))
+#define TESTS_100(d) "P,0\nP,1\nM,1,0\nG,0\nE,0," d ",100,0\nD,0,101\n"
+struct large {
+    int count;
+    const char *line, *lines;
+    uint32_t log[2];
+    uint64_t held, verdicts[4];
+};
+static const struct large larges[] = {
+    { 63, "T", "P,0\n", { 1, 0 }, 1, { ALL, 0, ALL >> 1, 0 } },
+    { 64, "T", "P,0\n", { 1, 0 }, 1, { ALL, 1, ALL, 0 } },
+    { 127, "T", "P,0\n", { 1, 0 }, 1, { ALL, ALL, ALL, ALL >> 1 } },
+    { 128, "T", "", { 1, 0 }, 2, { ALL, ALL, ALL, ALL } },
+    { 64, "F", "P,0\nN,64\n", { 1, 0 }, 1, { 0, 1, 0, 2 } },
+    { 63, "F", "P,0\nP,1\nA,63,64\n", { 3, 1 }, 1, { BIT(63), 3, BIT(63), 0 } },
+    { 63, "F", "P,0\nP,1\nO,64,63\n", { 2, 1 }, 2, { 0, 3, BIT(63), 2 } },
+    { 64, "F", "P,0\nP,1\nM,1,0\nG,0\nE,0,1,64,0\nD,0,65\n", { 1, 2 }, 2, { 0, 5, 0, 6 } },
+    { 100, "F", TESTS_100("1"), { 1, 2 }, 2, { 0, BIT(36) | BIT(38), 0, BIT(37) | BIT(38) } },
+    { 100, "F", TESTS_100("1"), { 4, 2 }, 1, { 0, 0, 0, BIT(37) | BIT(38) } },
+    { 100, "F", TESTS_100("2"), { 2, 1 }, 2, { 0, BIT(37) | BIT(38), 0, BIT(36) | BIT(38) } },
+    { 125, "F", "P,1\nP,0\nM,1,0\nG,0\nE,0,2,126,0\nB,0,125\n", { 2, 1 }, 1, { 0, BIT(61) | BIT(63), 0, BIT(62) } },
+};
+
+/* Their words; a buffer of a word less is refused and kept, and so is the word behind the verdicts. */
+static void two_words(void) {
+    enum { T = ROZSVELEN_TABLE };
+    const uint64_t old = 0x5a5a5a5a5a5a5a5a;
+    for (const struct large *x = larges; x < larges + sizeof larges / sizeof *larges; x++) {
+        uint16_t sheet[T];
+        uint64_t judged[5] = { old, old, old, old, old };
+        table_of(behind(x->count, x->line, x->lines), sheet);
+        check_of("a buffer of three words", x->lines, rozsvelen_judge(sheet, T, x->log, 2, judged, 3) == refused(33));
+        check_of("its content", x->lines, judged[0] == old && judged[1] == old && judged[2] == old);
+        check_of("the count held", x->lines, rozsvelen_judge(sheet, T, x->log, 2, judged, 5) == x->held);
+        check_of("the words", x->lines, memcmp(judged, x->verdicts, sizeof x->verdicts) == 0 && judged[4] == old);
+    }
+    const char *more = behind(128, "T", "T\n");
+    check("a sheet of 129 nodes", rozsvelen_read_sheet(text(more), strlen(more), made, T) == refused(5) + ((uint64_t)129 << 32));
+    check("512 entries in 1023 words", rozsvelen_judge(table, T, words, ROZSVELEN_ENTRIES, verdicts, VERDICTS - 1) == refused(33));
+}
+
+/* rozsvelen_verdict reads each node's own bit of each entry's own words. */
+static void verdicts_read(void) {
+    int as_wanted = 1;
+    for (uint32_t k = 0; k < ROZSVELEN_NODES; k++) {
+        uint64_t judged[6] = { 0, 0, 0, 0, 0, 0 };
+        judged[k < 64 ? 2 : 3] = BIT(k < 64 ? k : k - 64);
+        for (size_t i = 0; i < 3; i++) {
+            for (uint32_t node = 0; node < ROZSVELEN_NODES; node++) as_wanted &= rozsvelen_verdict(judged, i, node) == (i == 1 && node == k);
+        }
+    }
+    check("rozsvelen_verdict of each node", as_wanted);
+}
+
+/* W of document 01 behind 125 T lines: its rule is node 127. The log `0`, `1`, `2` is judged as a list and in parts, and walks are shown. */
+static void node_127(void) {
+    enum { T = ROZSVELEN_TABLE, RULE = 127 };
+    static const uint32_t log[3] = { 1, 2, 4 };
+    static const uint16_t lengths[2] = { 1, 2 };
+    uint16_t sheet[T], next[ROW] = { 0 }, shown[2] = { 9, 9 };
+    uint64_t judged[7] = { 7, 7, 7, 7, 7, 7, 7 };
+    table_of(behind(125, "T", "T\nP,1\nM,1,0\nG,0\nE,0,1,125,0\nD,0,126\n"), sheet);
+    check("a list in five words", rozsvelen_judge_logs(sheet, T, log, 3, lengths, 2, judged, 5, held, 2) == refused(33) + ((uint64_t)2 << 32));
+    check("a list, its words before", judged[0] == 7 && judged[4] == 7);
+    check("a list", rozsvelen_judge_logs(sheet, T, log, 3, lengths, 2, judged, 7, held, 2) == 0 && held[0] == 0 && held[1] == 1);
+    check("log 1 of a list", rozsvelen_verdict(judged, 0, RULE) == 0 && rozsvelen_verdict(judged, 0, 125) == 1);
+    check("log 2 of a list", rozsvelen_verdict(judged + ROZSVELEN_WORDS, 0, RULE) == 1 && rozsvelen_verdict(judged + ROZSVELEN_WORDS, 1, RULE) == 0);
+    check("a list, the word behind", judged[6] == 7);
+    for (int i = 2; i >= 0; i--) {
+        static const uint64_t second[3] = { BIT(61) | BIT(63), BIT(61) | BIT(62) | BIT(63), BIT(61) };
+        next[63] = 0xffff;
+        check("a part", rozsvelen_judge_part(sheet, T, ROZSVELEN_AHEAD, next, ROW, log + i, 1, judged, 2) == 0);
+        check("the words of a part", judged[0] == 0 && judged[1] == second[i]);
+        check("number 127 of the row", next[RULE] == (i < 2) && next[63] == 0);
+    }
+    check("walk of node 127", rozsvelen_walk(sheet, T, log, 3, RULE, 0, shown, 2) == 1 && shown[0] == 0 && shown[1] == 9);
+    check("walk of node 127 at the last entry", rozsvelen_walk(sheet, T, log, 3, RULE, 2, shown, 2) == refused(39));
+    check("walk of node 126", rozsvelen_walk(sheet, T, log, 3, RULE - 1, 0, shown, 2) == refused(38));
+    check("walk of node 128", rozsvelen_walk(sheet, T, log, 3, RULE + 1, 0, shown, 2) == refused(36));
 }
 
 static int counted_is(const char *log, uint32_t *into, uint64_t wanted) {
@@ -427,6 +527,9 @@ int main(void) {
     profiles_told();
     spare_nodes();
     rules_both_ways();
+    two_words();
+    verdicts_read();
+    node_127();
     counters_read();
     counters_refused();
     steps_and_entries();

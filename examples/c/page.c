@@ -48,7 +48,7 @@ static void print_walk(const uint16_t *table, const uint32_t *words, uint32_t en
 static void print_page(const uint8_t *rules, size_t rules_len, const uint8_t *steps, size_t steps_len) {
     static uint16_t table[ROZSVELEN_TABLE];
     static uint32_t words[ROZSVELEN_ENTRIES];
-    static uint64_t verdicts[ROZSVELEN_ENTRIES];
+    static uint64_t verdicts[ROZSVELEN_WORDS * ROZSVELEN_ENTRIES];
     uint64_t sheet = rozsvelen_read_sheet(rules, rules_len, table, ROZSVELEN_TABLE);
     if (rozsvelen_number(sheet) != 0) {
         refused(sheet);
@@ -60,15 +60,15 @@ static void print_page(const uint8_t *rules, size_t rules_len, const uint8_t *st
         return;
     }
     uint32_t entries = rozsvelen_count(log);
-    uint64_t held = rozsvelen_judge(table, ROZSVELEN_TABLE, words, entries, verdicts, ROZSVELEN_ENTRIES);
+    uint64_t held = rozsvelen_judge(table, ROZSVELEN_TABLE, words, entries, verdicts, ROZSVELEN_WORDS * ROZSVELEN_ENTRIES);
     if (rozsvelen_number(held) != 0) {
         refused(held);
         return;
     }
 
     uint32_t rule = table[ROZSVELEN_TABLE - 3] - 1u;
-    for (uint32_t i = 0; i < entries; i++) printf("%u,%u\n", i, (unsigned)(verdicts[i] >> rule & 1));
-    printf("rule,%u,held,%u,of,%u\n", (unsigned)(verdicts[0] >> rule & 1), rozsvelen_count(held), entries);
+    for (uint32_t i = 0; i < entries; i++) printf("%u,%d\n", i, rozsvelen_verdict(verdicts, i, rule));
+    printf("rule,%d,held,%u,of,%u\n", rozsvelen_verdict(verdicts, 0, rule), rozsvelen_count(held), entries);
     print_walk(table, words, entries, rule);
 }
 

@@ -22,13 +22,16 @@ fn letter(k: usize) -> char {
     ['D', 'B'][k % 2]
 }
 
+/// How many nodes the sheets have on which each node is a D or B of the one before.
+const IN_A_ROW: usize = 64;
+
 /// 16 states and 256 edges in three directions that test so many facts, led to their states by `to`; each further node is a D or B of the one before.
 fn nodes_in_a_row(tested: usize, to: fn(usize) -> usize) -> Case {
     let mut text = facts(tested) + "M,16,0\nG,15\n";
     for e in 0..256 {
         text += &format!("E,{},{},{},{}\n", e % 16, e % 3, e % tested, to(e) % 16);
     }
-    for k in tested..64 {
+    for k in tested..IN_A_ROW {
         text += &format!("{},0,{}\n", letter(k - tested), k - 1);
     }
     (text, mixed(512))
@@ -92,6 +95,22 @@ pub fn snake() -> Case {
     log[511] = 1;
     log[0] = 0b110;
     (text, log)
+}
+
+/// 128 nodes: facts and their opposites up to node 71, then D and B nodes that stand on each other, by four automata whose edges stay or go this
+/// way and test nodes below and above 63. To be judged and not timed.
+pub fn large(dir: usize) -> Case {
+    let mut text: String = (0..72).map(|k| if k % 3 == 2 { format!("N,{}\n", k - 1) } else { format!("P,{}\n", k % 32) }).collect();
+    for m in 0..4 {
+        text += "M,8,0\nG,7\n";
+        for e in 0..16 {
+            text += &format!("E,{},{},{},{}\n", e % 8, e / 4 % 2 * dir, (e * 13 + m * 7) % 72, (e * 3 + 1 + e / 8) % 8);
+        }
+    }
+    for k in 72..128 {
+        text += &format!("{},{},{}\n", letter(k), k % 4, k * 5 % 72 + (k - 72) / 8 * 8);
+    }
+    (text, mixed(200))
 }
 
 /// A thousand different logs of five entries for sheet Z.

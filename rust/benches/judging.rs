@@ -5,23 +5,21 @@
 //!     cargo bench
 mod cases;
 mod reading;
+mod same;
 mod timing;
 mod unproved;
 
 use cases::{dense, hard, many, short_logs, snake, zigzag, Case, W, Z};
-use rozsvelen::{Sheet, Way};
+use rozsvelen::{Sheet, Way, ENTRIES, WALK, WORDS};
 use std::hint::black_box;
 use timing::{head, row, time, work};
 use unproved::{bitsets, queue, steps, walks};
 
 fn judging(name: &str, text: &str, log: &[u32]) {
     let sheet = Sheet::read(text.as_bytes()).unwrap();
+    same::verdicts(name, &sheet, log);
     let table = sheet.numbers();
-    let [mut a, mut b, mut c, mut d] = [[0u64; 512]; 4];
-    let held = rozsvelen::judge(&sheet, log, &mut a).ok();
-    let others = [bitsets::judge(table, log, &mut b), steps::judge(table, log, &mut c), queue::judge(table, log, &mut d)];
-    assert_eq!(others, [held; 3], "{name}: the versions' counts differ");
-    assert!([&b, &c, &d].iter().all(|x| **x == a), "{name}: the versions' verdicts differ");
+    let [mut a, mut b, mut c, mut d] = [[0u64; WORDS * ENTRIES]; 4];
     let [proved, by_bitsets, by_steps, by_queue] = time(
         1,
         [
@@ -39,9 +37,9 @@ fn short_by_itself() {
     let sheet = Sheet::read(Z.as_bytes()).unwrap();
     let table = sheet.numbers();
     let words = short_logs();
-    let [mut a, mut b, mut c, mut d] = [0; 4].map(|_| vec![0u64; words.len()]);
+    let [mut a, mut b, mut c, mut d] = [0; 4].map(|_| vec![0u64; WORDS * words.len()]);
     let all = |verdicts: &mut [u64], judge: &mut dyn FnMut(&[u32], &mut [u64]) -> Option<usize>| -> Option<usize> {
-        words.chunks(5).zip(verdicts.chunks_mut(5)).map(|(log, verdicts)| judge(black_box(log), verdicts)).sum()
+        words.chunks(5).zip(verdicts.chunks_mut(5 * WORDS)).map(|(log, verdicts)| judge(black_box(log), verdicts)).sum()
     };
     let mut proved = || all(&mut a, &mut |log, verdicts| rozsvelen::judge(&sheet, log, verdicts).ok());
     let mut by_bitsets = || all(&mut b, &mut |log, verdicts| bitsets::judge(table, log, verdicts));
@@ -59,7 +57,7 @@ fn short_in_one_call() {
     let sheet = Sheet::read(Z.as_bytes()).unwrap();
     let table = sheet.numbers();
     let (words, lengths) = (short_logs(), [5; 1000]);
-    let [mut a, mut b, mut c] = [0; 3].map(|_| (vec![0u64; words.len()], vec![0u16; lengths.len()]));
+    let [mut a, mut b, mut c] = [0; 3].map(|_| (vec![0u64; WORDS * words.len()], vec![0u16; lengths.len()]));
     let mut proved = || rozsvelen::judge_logs(&sheet, black_box(&words), &lengths, &mut a.0, &mut a.1).ok();
     let mut by_bitsets = || bitsets::logs(table, black_box(&words), &lengths, &mut b.0, &mut b.1);
     let mut by_steps = || steps::logs(table, black_box(&words), &lengths, &mut c.0, &mut c.1);
@@ -74,7 +72,7 @@ fn parts() {
     let sheet = Sheet::read(W.as_bytes()).unwrap();
     let plain = rozsvelen::plain_row(&sheet).unwrap();
     let (_, log) = hard(2);
-    let [mut a, mut b, mut c] = [[0u64; 32]; 3];
+    let [mut a, mut b, mut c] = [[0u64; 32 * WORDS]; 3];
     let mut proved = || log.chunks(32).rev().fold(plain, |row, part| rozsvelen::judge_part(&sheet, Way::Ahead, &row, part, &mut a).unwrap());
     let mut by_bitsets = || log.chunks(32).rev().fold(plain, |row, part| bitsets::part(sheet.numbers(), part, &mut b, &row, true).unwrap());
     let mut by_steps = || log.chunks(32).rev().fold(plain, |row, part| steps::part(sheet.numbers(), part, &mut c, &row, true).unwrap());
@@ -86,10 +84,8 @@ fn parts() {
 
 fn walking(name: &str, (text, log): (&str, &[u32]), node: usize, times: usize) {
     let sheet = Sheet::read(text.as_bytes()).unwrap();
-    let [mut a, mut b] = [[0u16; 8191]; 2];
-    let length = rozsvelen::walk(&sheet, log, node as u32, 0, &mut a).unwrap();
-    assert_eq!(Some(length), walks::walk(sheet.numbers(), log, node, 0, &mut b), "{name}: the walks' lengths differ");
-    assert!(a == b, "{name}: the walks differ");
+    assert!(same::walk(name, &sheet, log, node), "{name}: there is no walk");
+    let [mut a, mut b] = [[0u16; WALK]; 2];
     let [proved, unproved] = time(
         times,
         [
@@ -101,6 +97,7 @@ fn walking(name: &str, (text, log): (&str, &[u32]), node: usize, times: usize) {
 }
 
 fn main() {
+    same::above_63();
     head();
     let case = |name: &str, (text, log): Case| judging(name, &text, &log);
     case("hard", hard(2));

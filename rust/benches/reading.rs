@@ -1,8 +1,8 @@
 //! Readers of texts. The unproved ones ask every question, so they are first compared with the library on many damaged texts.
-use crate::cases::{hard, W, Z};
+use crate::cases::{hard, large, W, Z};
 use crate::timing::{row, time, work};
 use crate::unproved::{readers, TABLE};
-use rozsvelen::Sheet;
+use rozsvelen::{Sheet, NODES};
 use std::hint::black_box;
 
 /// Every text with one byte of the given one replaced, left out or preceded by one of these.
@@ -43,8 +43,14 @@ fn same_answers() {
     for sheet in [Z, W, "T\nM,2,0\nG,0\nE,0,0,0,1\nD,0,0\nM,1,0\nE,0,0,1,0\nN,0\n"] {
         damaged(sheet).for_each(|text| same_sheet(&text));
     }
-    // a node, an automaton and an edge more than there may be
-    for text in ["T\n".repeat(65), "T\n".to_string() + &"M,1,0\nE,0,0,0,0\n".repeat(17), hard(2).0.replace("D,0,1\n", "M,1,0\nE,0,0,0,0\n")] {
+    // 128 nodes; a node, an automaton and an edge more than there may be
+    for text in [
+        large(1).0,
+        "T\n".repeat(NODES),
+        "T\n".repeat(NODES + 1),
+        "T\n".to_string() + &"M,1,0\nE,0,0,0,0\n".repeat(17),
+        hard(2).0.replace("D,0,1\n", "M,1,0\nE,0,0,0,0\n"),
+    ] {
         same_sheet(text.as_bytes());
     }
     for bytes in [49_152, 49_154] {

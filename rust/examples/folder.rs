@@ -4,7 +4,7 @@
 //! A log that cannot be read to its end is said on standard error; the others are judged all the same, and the program ends with status 1.
 //!
 //!     cargo run --example folder -- ../examples/night-batch
-use rozsvelen::{judge_logs, Log, Refused, Sheet, TABLE};
+use rozsvelen::{holds, judge_logs, Log, Refused, Sheet, TABLE, WORDS};
 use std::error::Error;
 use std::fs::{read_dir, File};
 use std::io::{self, Read, Write};
@@ -54,11 +54,11 @@ fn texts(folder: &Path) -> io::Result<(Vec<(String, Result<Log, Refused>)>, bool
 
 /// A line for each log, from one judging of all those whose text is not refused.
 fn print(sheet: &Sheet, texts: &[(String, Result<Log, Refused>)], out: &mut impl Write) -> Result<(), Box<dyn Error>> {
-    let rule = sheet.numbers()[TABLE - 3] - 1;
+    let rule = sheet.numbers()[TABLE - 3] as usize - 1;
     let read: Vec<&[u32]> = texts.iter().flat_map(|(_, log)| log).map(Log::words).collect();
     let lengths: Vec<u16> = read.iter().map(|log| log.len() as u16).collect();
     let words = read.concat();
-    let (mut verdicts, mut held) = (vec![0; words.len()], vec![0; lengths.len()]);
+    let (mut verdicts, mut held) = (vec![0; WORDS * words.len()], vec![0; lengths.len()]);
     judge_logs(sheet, &words, &lengths, &mut verdicts, &mut held)?;
     let (mut first, mut held) = (0, held.iter());
     for (name, log) in texts {
@@ -66,7 +66,8 @@ fn print(sheet: &Sheet, texts: &[(String, Result<Log, Refused>)], out: &mut impl
             Err(no) => writeln!(out, "{name},refused,{},{}", no.number, no.line)?,
             Ok(log) => {
                 let held = held.next().expect("a count for each log that was judged");
-                writeln!(out, "{name},rule,{},held,{held},of,{}", verdicts[first] >> rule & 1, log.words().len())?;
+                let verdict = u8::from(holds(&verdicts, first, rule));
+                writeln!(out, "{name},rule,{verdict},held,{held},of,{}", log.words().len())?;
                 first += log.words().len();
             }
         }

@@ -3,7 +3,7 @@
 //!
 //!     cargo run --example shifts                                   the long job, ../examples/long-job-in-shifts
 //!     cargo run --example shifts -- ../examples/spare-automaton    another folder
-use rozsvelen::{judge, judge_part, plain_row, Log, Looks, Sheet, Way, TABLE};
+use rozsvelen::{holds, judge, judge_part, plain_row, Log, Looks, Sheet, Way, TABLE, WORDS};
 use std::error::Error;
 use std::path::{Path, PathBuf};
 
@@ -21,13 +21,13 @@ fn log(folder: &Path, name: &str) -> Result<Log, Box<dyn Error>> {
 }
 
 /// The rule's verdicts: in parts the other nodes have theirs only where the rule stands on them.
-fn of_rule(sheet: &Sheet, verdicts: &[u64]) -> Vec<u64> {
-    let rule = sheet.numbers()[TABLE - 3] - 1;
-    verdicts.iter().map(|w| w >> rule & 1).collect()
+fn of_rule(sheet: &Sheet, verdicts: &[u64]) -> Vec<u8> {
+    let rule = sheet.numbers()[TABLE - 3] as usize - 1;
+    (0..verdicts.len() / WORDS).map(|entry| u8::from(holds(verdicts, entry, rule))).collect()
 }
 
 /// The rule's verdicts at the entries of all shifts, in the order of the log.
-fn by_shifts(sheet: &Sheet, folder: &Path, way: Way) -> Result<Vec<u64>, Box<dyn Error>> {
+fn by_shifts(sheet: &Sheet, folder: &Path, way: Way) -> Result<Vec<u8>, Box<dyn Error>> {
     let mut shifts = ["shift-1.txt", "shift-2.txt", "shift-3.txt"];
     if way == Way::Ahead {
         shifts.reverse();
@@ -36,7 +36,7 @@ fn by_shifts(sheet: &Sheet, folder: &Path, way: Way) -> Result<Vec<u64>, Box<dyn
     let mut judged = vec![];
     for shift in shifts {
         let log = log(folder, shift)?;
-        let mut verdicts = vec![0; log.words().len()];
+        let mut verdicts = vec![0; WORDS * log.words().len()];
         row = judge_part(sheet, way, &row, log.words(), &mut verdicts)?;
         let verdicts = of_rule(sheet, &verdicts);
         println!("{shift}: {verdicts:?}");
@@ -59,9 +59,9 @@ fn main() -> Result<(), Box<dyn Error>> {
     let by_shifts = by_shifts(&sheet, &folder, way)?;
 
     let log = log(&folder, "steps.txt")?;
-    let mut whole = vec![0; log.words().len()];
+    let mut whole = vec![0; WORDS * log.words().len()];
     let held = judge(&sheet, log.words(), &mut whole)?;
     assert_eq!(by_shifts, of_rule(&sheet, &whole), "cutting a log changes no verdict of the rule");
-    println!("the rule holds at {held} of {} entries, by shifts and whole", whole.len());
+    println!("the rule holds at {held} of {} entries, by shifts and whole", log.words().len());
     Ok(())
 }

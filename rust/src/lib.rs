@@ -4,14 +4,14 @@
 //! that shows a verdict:
 //!
 //! ```
-//! use rozsvelen::{judge, walk, Log, Sheet};
+//! use rozsvelen::{holds, judge, walk, Log, Sheet, WORDS};
 //!
 //! // `approved` is fact 1. The rule: from here some later entry (or this one) is an approval.
 //! let sheet = Sheet::read(b"T\nP,1\nM,1,0\nG,0\nE,0,1,0,0\nD,0,1\n").unwrap();
 //! let log = Log::read(b"0\n1\n2\n").unwrap();
-//! let mut verdicts = [0u64; 3];
+//! let mut verdicts = [0u64; 3 * WORDS];
 //! assert_eq!(judge(&sheet, log.words(), &mut verdicts), Ok(2));
-//! assert_eq!(verdicts.map(|w| w >> 2 & 1), [1, 1, 0]);
+//! assert_eq!([0, 1, 2].map(|entry| holds(&verdicts, entry, 2)), [true, true, false]);
 //!
 //! let mut edges = [0u16; 8];
 //! assert_eq!(walk(&sheet, log.words(), 2, 0, &mut edges), Ok(1));
@@ -27,9 +27,13 @@ use std::error::Error;
 use std::fmt;
 
 /// How many numbers a table is.
-pub const TABLE: usize = 1315;
+pub const TABLE: usize = 1507;
+/// At most so many nodes stand on a sheet.
+pub const NODES: usize = 128;
 /// How many numbers a row is, one for each node.
-pub const ROW: usize = 64;
+pub const ROW: usize = NODES;
+/// How many verdict words an entry takes: a log of n entries needs `WORDS * n` of them. [`holds`] reads them.
+pub const WORDS: usize = 2;
 /// At most so many entries are judged at once.
 pub const ENTRIES: usize = 512;
 /// A buffer of so many places takes every walk.
@@ -131,7 +135,7 @@ impl Sheet {
     }
 
     /// The sheet in the plain profile, where `N` stands directly on a fact. Node k gives two nodes, 2k with the same meaning and 2k + 1 with its
-    /// opposite, and a last node repeats the rule's; the automata keep their places. 42 where these are more than 64 nodes.
+    /// opposite, and a last node repeats the rule's; the automata keep their places. 42 where these are more than 128 nodes.
     ///
     /// ```
     /// use rozsvelen::{Refused, Sheet};
@@ -139,7 +143,7 @@ impl Sheet {
     /// let sheet = Sheet::read(b"T\nP,1\nM,1,0\nG,0\nE,0,1,0,0\nD,0,1\nN,2\n").unwrap();
     /// let plain = Sheet::read(b"T\nF\nP,1\nN,2\nM,1,0\nG,0\nE,0,1,0,0\nD,0,2\nB,0,3\nB,0,3\nD,0,2\nB,0,3\n").unwrap();
     /// assert_eq!(sheet.profile(), Ok(plain));
-    /// let large = Sheet::read(&b"T\n".repeat(32)).unwrap();
+    /// let large = Sheet::read(&b"T\n".repeat(64)).unwrap();
     /// assert_eq!(large.profile(), Err(Refused { number: 42, line: 0 }));
     /// ```
     pub fn profile(&self) -> Result<Sheet, Refused> {
@@ -268,37 +272,80 @@ pub fn entry_bearing(first: u16, entries: usize, counter: u16) -> Result<usize, 
     boundary::entry_bearing(first, entries, counter)
 }
 
-/// Judges a whole log: a word for each entry, bit k for node k, in the first places of `verdicts`. Gives how many entries the rule holds at.
-/// A refusal alters nothing.
+/// Whether a node holds at an entry, by the words that a judged log or part has: the one way to read a verdict. Of many logs judged in one call,
+/// `verdicts` are the words from the log's first one on.
 ///
 /// ```
-/// use rozsvelen::{judge, Refused, Sheet};
+/// use rozsvelen::{holds, judge, Sheet, WORDS};
+/// // node 0 is fact 0; the rule, node 65, is fact 1
+/// let text = ["P,0\n", &"T\n".repeat(64), "P,1\n"].concat();
+/// let sheet = Sheet::read(text.as_bytes()).unwrap();
+/// let mut verdicts = [0; 2 * WORDS];
+/// assert_eq!(judge(&sheet, &[0b01, 0b10], &mut verdicts), Ok(1));
+/// assert!(holds(&verdicts, 0, 0) && !holds(&verdicts, 1, 0));
+/// assert!(holds(&verdicts, 1, 65) && !holds(&verdicts, 0, 65));
+/// assert!(!holds(&verdicts, 1, 66), "a node that is not on the sheet holds nowhere");
+/// ```
+///
+/// # Panics
+///
+/// Where not both words of the entry are there, and where no sheet has such a node, one of [`NODES`] or beyond.
+///
+/// ```should_panic
+/// rozsvelen::holds(&[u64::MAX; 3], 1, 0); // entry 1 has words 2 and 3
+/// ```
+///
+/// ```should_panic
+/// rozsvelen::holds(&[u64::MAX; 8], 0, 128);
+/// ```
+#[track_caller]
+pub fn holds(verdicts: &[u64], entry: usize, node: usize) -> bool {
+    const BITS: usize = u64::BITS as usize;
+    assert!(node < NODES, "node {node}: a sheet has at most {NODES} nodes");
+    let Some(words) = verdicts.chunks_exact(WORDS).nth(entry) else {
+        panic!("entry {entry}: these are the words of {} entries", verdicts.len() / WORDS);
+    };
+    words[node / BITS] >> (node % BITS) & 1 == 1
+}
+
+/// Judges a whole log: two words for each entry, [`WORDS`], in the first places of `verdicts`; the places behind them keep their content. Nodes 0
+/// to 63 are the bits of an entry's first word, nodes 64 to 127 those of its second, and bits of nodes that are not there are 0: [`holds`] reads
+/// them. Gives how many entries the rule holds at. 33 where `verdicts` has not twice the log's length. A refusal alters nothing.
+///
+/// ```
+/// use rozsvelen::{holds, judge, Refused, Sheet, WORDS};
 /// // the rule, node 1: there is a next entry
 /// let sheet = Sheet::read(b"T\nM,2,0\nG,1\nE,0,1,0,1\nD,0,0\n").unwrap();
-/// let mut verdicts = [9; 4];
+/// let mut verdicts = [9; 3 * WORDS + 1];
 /// assert_eq!(judge(&sheet, &[0, 0, 0], &mut verdicts), Ok(2));
-/// assert_eq!(verdicts, [0b11, 0b11, 0b01, 9]);
+/// assert_eq!([0, 1, 2].map(|entry| holds(&verdicts, entry, 1)), [true, true, false]);
+/// assert_eq!(verdicts, [0b11, 0, 0b11, 0, 0b01, 0, 9]);
 /// assert_eq!(judge(&sheet, &[], &mut verdicts), Err(Refused { number: 32, line: 0 }));
+/// assert_eq!(judge(&sheet, &[0, 0, 0], &mut verdicts[..5]), Err(Refused { number: 33, line: 0 }));
 /// ```
 pub fn judge(sheet: &Sheet, log: &[u32], verdicts: &mut [u64]) -> Result<usize, Refused> {
     boundary::judge(&sheet.table, log, verdicts)
 }
 
 /// Judges many logs of one sheet in one call, which asks once whether some sheet gives the table. `words` has the logs' entries one after the
-/// other, `lengths` how many entries each log has. The verdict words of all logs take the first places of `verdicts` in the same order, and
-/// the counts of entries at which the rule holds the first places of `held`, one for each log.
+/// other, `lengths` how many entries each log has. The verdict words of all logs, [`WORDS`] for each entry, take the first places of `verdicts` in
+/// the same order, and the counts of entries at which the rule holds the first places of `held`, one for each log.
 ///
 /// A refusal alters nothing; its `line` is the number of the log it is about, counted from 1, or 0 where it is about none. 32 is about the first
-/// log that is not among the first 65,535, has not 1 to 512 entries, or lacks words; where words are left over, about the log after the last.
+/// log that is not among the first 65,535, has not 1 to 512 entries, or lacks words; where words are left over, about the log after the last. 33 is
+/// about the first log that lacks places in `verdicts` or `held`.
 ///
 /// ```
-/// use rozsvelen::{judge_logs, Refused, Sheet};
+/// use rozsvelen::{holds, judge_logs, Refused, Sheet, WORDS};
 /// // the rule, node 1: there is a next entry
 /// let sheet = Sheet::read(b"T\nM,2,0\nG,1\nE,0,1,0,1\nD,0,0\n").unwrap();
-/// let (mut verdicts, mut held) = ([9; 5], [9; 3]);
+/// let (mut verdicts, mut held) = ([9; 4 * WORDS + 1], [9; 3]);
 /// assert_eq!(judge_logs(&sheet, &[0; 4], &[3, 1], &mut verdicts, &mut held), Ok(()));
-/// assert_eq!(verdicts, [0b11, 0b11, 0b01, 0b01, 9]);
+/// assert_eq!(verdicts, [0b11, 0, 0b11, 0, 0b01, 0, 0b01, 0, 9]);
 /// assert_eq!(held, [2, 0, 9]);
+/// let second = &verdicts[3 * WORDS..];
+/// assert!(holds(&verdicts, 0, 1) && !holds(second, 0, 1));
+/// assert_eq!(judge_logs(&sheet, &[0; 4], &[3, 1], &mut verdicts[..7], &mut held), Err(Refused { number: 33, line: 2 }));
 /// assert_eq!(judge_logs(&sheet, &[0; 4], &[3, 2], &mut verdicts, &mut held), Err(Refused { number: 32, line: 2 }));
 /// assert_eq!(judge_logs(&sheet, &[0; 4], &[3], &mut verdicts, &mut held), Err(Refused { number: 32, line: 2 }));
 /// assert_eq!(judge_logs(&sheet, &[], &[], &mut [], &mut []), Ok(()));
@@ -320,19 +367,19 @@ pub fn plain_row(sheet: &Sheet) -> Result<[u16; ROW], Refused> {
     boundary::plain_row(&sheet.table)
 }
 
-/// Judges a part of a log, given the row of the entry just outside it, and gives the row for the next part. Only the nodes that the rule stands on
-/// are judged: the verdict bits of the others are 0, and their bits of the row are ignored and given as 0. 34 where the rule looks the other way
-/// (`Sheet::rule_looks`).
+/// Judges a part of a log, given the row of the entry just outside it, and gives the row for the next part. The verdict words are as [`judge`] has
+/// them, [`WORDS`] for each entry. Only the nodes that the rule stands on are judged: the verdict bits of the others are 0, and their bits of the row
+/// are ignored and given as 0. 34 where the rule looks the other way (`Sheet::rule_looks`).
 ///
 /// ```
-/// use rozsvelen::{judge_part, plain_row, Sheet, Way};
+/// use rozsvelen::{holds, judge_part, plain_row, Sheet, Way, WORDS};
 /// let sheet = Sheet::read(b"T\nP,1\nM,1,0\nG,0\nE,0,1,0,0\nD,0,1\n").unwrap();
-/// let mut words = [0u64; 2];
+/// let mut verdicts = [0u64; 2 * WORDS];
 /// let plain = plain_row(&sheet).unwrap();
-/// let late = judge_part(&sheet, Way::Ahead, &plain, &[2, 4], &mut words).unwrap();
-/// assert_eq!(words.map(|w| w >> 2 & 1), [1, 0]);
-/// judge_part(&sheet, Way::Ahead, &late, &[1], &mut words).unwrap();
-/// assert_eq!(words[0] >> 2 & 1, 1);
+/// let late = judge_part(&sheet, Way::Ahead, &plain, &[2, 4], &mut verdicts).unwrap();
+/// assert!(holds(&verdicts, 0, 2) && !holds(&verdicts, 1, 2));
+/// judge_part(&sheet, Way::Ahead, &late, &[1], &mut verdicts).unwrap();
+/// assert!(holds(&verdicts, 0, 2));
 /// ```
 pub fn judge_part(sheet: &Sheet, way: Way, row: &[u16; ROW], words: &[u32], verdicts: &mut [u64]) -> Result<[u16; ROW], Refused> {
     boundary::judge_part(&sheet.table, way, row, words, verdicts)

@@ -1,10 +1,12 @@
 //! What only a caller of the C functions can do or see: slices of other lengths, numbers that are no table's, other numbers for the way, and
 //! the whole number of an answer.
-use rozsvelen::{Sheet, ENTRIES, PAGE, ROW, TABLE};
+use rozsvelen::{holds, Sheet, ENTRIES, NODES, PAGE, ROW, TABLE, WORDS};
 
 #[path = "../src/calls.rs"]
 #[allow(dead_code)]
 mod calls;
+#[path = "boundary/nodes.rs"]
+mod nodes;
 #[path = "boundary/spares.rs"]
 mod spares;
 
@@ -15,6 +17,18 @@ const W: &[u8] = b"T\nP,1\nM,1,0\nG,0\nE,0,1,0,0\nD,0,1\n";
 /// An answer without a count: the question's number and line, or the log of a list.
 fn refusal(number: u64, line: u64) -> u64 {
     65536 * number + (line << 32)
+}
+
+/// The words of a log by a sheet of at most 64 nodes: behind each entry's first word stands a 0.
+fn few_nodes(first_words: &[u64]) -> Vec<u64> {
+    first_words.iter().flat_map(|word| [*word, 0]).collect()
+}
+
+/// A row of these numbers, and else of this one.
+fn row_of(numbers: &[(usize, u16)], other: u16) -> [u16; ROW] {
+    let mut row = [other; ROW];
+    numbers.iter().for_each(|(k, number)| row[*k] = *number);
+    row
 }
 
 fn table_of(text: &[u8]) -> [u16; TABLE] {
@@ -133,7 +147,7 @@ fn zeros_before_the_numbers_of_a_sheet_change_nothing() {
     assert_eq!(padded, table());
 }
 
-/// A sheet, its profile worked by hand, a log of three entries, and its verdicts and held count by that profile.
+/// A sheet, its profile worked by hand, a log of three entries, and its verdicts (each entry's first word) and held count by that profile.
 type Profiled<'a> = (&'a [u8], &'a [u8], [u32; 3], [u64; 3], u64);
 
 #[test]
@@ -153,27 +167,31 @@ fn profiles_are_as_worked_by_hand() {
         ),
     ];
     for (sheet, wanted, log, words, held) in worked {
-        let (mut made, mut verdicts) = ([7; TABLE], [9; 3]);
+        let (mut made, mut verdicts) = ([7; TABLE], [9; 3 * WORDS]);
         assert_eq!(profile(&table_of(sheet), &mut made), 0, "{:?}", String::from_utf8_lossy(sheet));
         assert_eq!(made, table_of(wanted), "{:?}", String::from_utf8_lossy(sheet));
-        assert_eq!((judge(&made, &log, &mut verdicts), verdicts), (held, words), "{:?}", String::from_utf8_lossy(sheet));
+        assert_eq!(judge(&made, &log, &mut verdicts), held, "{:?}", String::from_utf8_lossy(sheet));
+        assert_eq!(verdicts[..], few_nodes(&words), "{:?}", String::from_utf8_lossy(sheet));
     }
 }
 
 #[test]
-fn a_profile_has_at_most_64_nodes() {
+fn a_profile_has_at_most_128_nodes() {
     let mut made = [7; TABLE];
-    assert_eq!(profile(&table_of(&b"T\n".repeat(32)), &mut made), refusal(42, 0));
-    assert_eq!(profile(&table_of(&b"T\n".repeat(64)), &mut made), refusal(42, 0));
+    for nodes in [64, 65, NODES] {
+        assert_eq!(profile(&table_of(&b"T\n".repeat(nodes)), &mut made), refusal(42, 0), "{nodes} nodes");
+    }
     assert_eq!(made, [7; TABLE]);
-    assert_eq!(profile(&table_of(&b"T\n".repeat(31)), &mut made), 0);
-    assert_eq!(made, table_of(&[&b"T\nF\n".repeat(31)[..], b"T\n"].concat()));
-    assert_eq!(made[TABLE - 3], 63);
+    for nodes in [31, 32, 63] {
+        assert_eq!(profile(&table_of(&b"T\n".repeat(nodes)), &mut made), 0, "{nodes} nodes");
+        assert_eq!(made, table_of(&[&b"T\nF\n".repeat(nodes)[..], b"T\n"].concat()), "{nodes} nodes");
+        assert_eq!(made[TABLE - 3] as usize, 2 * nodes + 1);
+    }
 }
 
 #[test]
 fn a_profile_is_asked_35_then_31_then_42() {
-    let many = table_of(&b"T\n".repeat(32));
+    let many = table_of(&b"T\n".repeat(64));
     for length in [0, TABLE - 1, TABLE + 1] {
         let mut out = vec![7; length];
         for numbers in [table(), [0; TABLE], many] {
@@ -324,10 +342,10 @@ fn at_most_one_entry_bears_a_counter() {
 fn a_row_has_its_length() {
     for length in [0, ROW - 1, ROW + 1] {
         let mut row = vec![7; length];
-        let mut verdicts = [9];
+        let mut verdicts = [9; WORDS];
         assert_eq!(plain_row(&table(), &mut row), refusal(35, 0));
         assert_eq!(judge_part(&table(), 1, &mut row, &[2], &mut verdicts), refusal(35, 0));
-        assert_eq!((row, verdicts), (vec![7; length], [9]));
+        assert_eq!((row, verdicts), (vec![7; length], [9; WORDS]));
     }
 }
 
@@ -336,7 +354,7 @@ fn numbers_that_are_no_tables_are_31() {
     let mut large = table();
     large[0] += 256;
     for numbers in [&table()[..TABLE - 1], &[], &large[..], &[0; TABLE + 1]] {
-        let mut verdicts = [9; 2];
+        let mut verdicts = [9; 1 + WORDS];
         let mut row = [7; ROW];
         let mut edges = [5; 3];
         let mut made = [3; TABLE];
@@ -347,44 +365,46 @@ fn numbers_that_are_no_tables_are_31() {
         assert_eq!(plain_row(numbers, &mut row), refusal(31, 0));
         assert_eq!(judge_part(numbers, 1, &mut row, &[2], &mut verdicts), refusal(31, 0));
         assert_eq!(walk(numbers, &[2], 2, 0, &mut edges), refusal(31, 0));
-        assert_eq!((row, verdicts, edges, made), ([7; ROW], [9; 2], [5; 3], [3; TABLE]));
+        assert_eq!((row, verdicts, edges, made), ([7; ROW], [9; 1 + WORDS], [5; 3], [3; TABLE]));
     }
 }
 
-/// In how many words bit 2 is set: W's rule is node 2.
-fn rule_bits(verdicts: &[u64]) -> usize {
-    verdicts.iter().filter(|word| **word & 4 != 0).count()
+/// At how many entries node 2 holds: it is W's rule.
+fn rule_holds(verdicts: &[u64]) -> usize {
+    (0..verdicts.len() / WORDS).filter(|entry| holds(verdicts, *entry, 2)).count()
 }
 
 #[test]
 fn the_count_is_that_of_the_rules_bits_whole_and_in_parts() {
     let log = [1, 2, 4, 1, 2, 0];
-    let mut whole = [9; 7];
+    let mut whole = [9; 6 * WORDS + 1];
     assert_eq!(judge(&table(), &log, &mut whole), 5, "fact 1 comes at entries 1 and 4, so not after entry 4");
-    assert_eq!(whole, [0b101, 0b111, 0b101, 0b101, 0b111, 0b001, 9]);
-    assert_eq!(rule_bits(&whole[..6]), 5);
+    assert_eq!(whole, [0b101, 0, 0b111, 0, 0b101, 0, 0b101, 0, 0b111, 0, 0b001, 0, 9]);
+    assert_eq!(rule_holds(&whole), 5);
 
     let (mut row, mut held) = ([7; ROW], 0);
     assert_eq!(plain_row(&table(), &mut row), 0);
     for part in [4..6, 3..3, 0..4] {
-        let mut verdicts = vec![9; part.len()];
+        let mut verdicts = vec![9; WORDS * part.len()];
         assert_eq!(judge_part(&table(), 1, &mut row, &log[part], &mut verdicts), 0);
-        held += rule_bits(&verdicts);
+        held += rule_holds(&verdicts);
     }
     assert_eq!(held, 5, "the parts' rule bits are the whole log's");
 }
 
 #[test]
 fn many_logs_are_asked_31_then_32_then_33() {
-    let (mut verdicts, mut held) = ([9; 3], [7; 2]);
+    let (mut verdicts, mut held) = ([9; 5], [7; 2]);
     assert_eq!(judge_logs(&table()[1..], &[2], &[0], &mut [], &mut held), refusal(31, 0), "31 comes before 32");
     assert_eq!(judge_logs(&[], &[], &[], &mut [], &mut []), refusal(31, 0), "31 is asked where there is no log");
     assert_eq!(judge_logs(&table(), &[2], &[1, 0], &mut [], &mut held), refusal(32, 2), "32 comes before 33");
-    assert_eq!(judge_logs(&table(), &[2, 0], &[1, 1], &mut verdicts[..1], &mut held), refusal(33, 2), "log 2 has no room for its word");
+    assert_eq!(judge_logs(&table(), &[2, 0], &[1, 1], &mut verdicts[..1], &mut held), refusal(33, 1), "log 1 has room for one of its words");
+    assert_eq!(judge_logs(&table(), &[2, 0], &[1, 1], &mut verdicts[..2], &mut held), refusal(33, 2), "log 2 has no room for its words");
+    assert_eq!(judge_logs(&table(), &[2, 0], &[1, 1], &mut verdicts[..3], &mut held), refusal(33, 2), "log 2 has room for one of its words");
     assert_eq!(judge_logs(&table(), &[2, 0], &[1, 1], &mut verdicts, &mut held[..1]), refusal(33, 2), "log 2 has no room for its count");
-    assert_eq!((verdicts, held), ([9; 3], [7; 2]));
+    assert_eq!((verdicts, held), ([9; 5], [7; 2]));
     assert_eq!(judge_logs(&table(), &[2, 0], &[1, 1], &mut verdicts, &mut held), 0);
-    assert_eq!((verdicts, held), ([0b111, 0b001, 9], [1, 0]));
+    assert_eq!((verdicts, held), ([0b111, 0, 0b001, 0, 9], [1, 0]));
     assert_eq!(judge_logs(&table(), &[2; 65536], &[1; 65536], &mut [], &mut []), refusal(32, 65536), "a log takes more than a line's 16 bits");
 }
 
@@ -392,12 +412,12 @@ fn many_logs_are_asked_31_then_32_then_33() {
 fn a_way_is_1_or_2() {
     for way in (0..=255).chain([256, 257, 258, 65537, 65538, u32::MAX]) {
         let mut row = [7; ROW];
-        let mut verdicts = [9];
+        let mut verdicts = [9; WORDS];
         let answer = judge_part(&table(), way, &mut row, &[2], &mut verdicts);
         match way {
-            1 => assert_eq!((answer, row[2], verdicts), (0, 1, [0b111])),
-            2 => assert_eq!((answer, row, verdicts), (refusal(34, 0), [7; ROW], [9]), "W looks only ahead"),
-            _ => assert_eq!((answer, row, verdicts), (refusal(43, 0), [7; ROW], [9]), "way {way}"),
+            1 => assert_eq!((answer, row[2], verdicts), (0, 1, [0b111, 0])),
+            2 => assert_eq!((answer, row, verdicts), (refusal(34, 0), [7; ROW], [9; WORDS]), "W looks only ahead"),
+            _ => assert_eq!((answer, row, verdicts), (refusal(43, 0), [7; ROW], [9; WORDS]), "way {way}"),
         }
     }
 }
@@ -413,7 +433,7 @@ fn the_way_is_asked_after_the_rows_length_and_before_the_table() {
 fn no_number_is_taken_for_a_node_or_an_entry_of_fewer_bits() {
     let log = [0, 2, 0];
     let mut edges = [5; 3];
-    for node in [3, 63, 64, 255, 256, 256 + 2, 65536 + 2, u32::MAX - 253, u32::MAX] {
+    for node in [3, 63, 64, 64 + 2, 127, 128, 128 + 2, 255, 256, 256 + 2, 65536 + 2, u32::MAX - 253, u32::MAX] {
         assert_eq!(walk(&table(), &log, node, 0, &mut edges), refusal(36, 0), "node {node}");
     }
     for entry in [3, 512, 65535, 65536, 65536 + 1, u32::MAX - 65535, u32::MAX] {

@@ -1,4 +1,5 @@
 //! Random sheets, logs, rows and damage, from a seed.
+use crate::checker::sheets::{AUTOMATA_AT, COUNTS_AT, EDGES_AT, NODES, TABLE};
 
 /// A generator of numbers that is the same on every machine (SplitMix64).
 pub struct Random(pub u64);
@@ -45,31 +46,36 @@ struct Writer<'a> {
     edges: usize,
 }
 
-/// How many nodes a sheet has; how many automata it may have, and how many states each of them.
+/// How many nodes a sheet has, and how many of them are leaves that stand before all others; how many automata it may have, and how many states
+/// each of them.
 pub struct Size {
+    pub leaves: usize,
     pub nodes: usize,
     pub automata: usize,
     pub states: usize,
 }
 
-/// A sheet that reads, of random size: mostly small, now and then near the limits.
+/// A sheet that reads, of random size: mostly small; in one of six cases small behind so many leaves that its nodes are about or above number 63;
+/// now and then near the limits.
 pub fn sheet(random: &mut Random, looks: Looks) -> String {
-    let size = if random.one_in(40) {
-        Size { nodes: 64, automata: 16, states: 16 }
-    } else {
-        Size { nodes: 4 + random.below(8), automata: 1 + random.below(3), states: 4 }
-    };
+    if random.one_in(60) {
+        let nodes = *random.pick(&[64, 65, 96, NODES]);
+        return sheet_of(random, looks, Size { leaves: 2, nodes, automata: 16, states: 16 });
+    }
+    let leaves = if random.one_in(6) { 52 + random.below(68) } else { 2 };
+    let size = Size { leaves, nodes: leaves + 2 + random.below(8), automata: 1 + random.below(3), states: 4 };
     sheet_of(random, looks, size)
 }
 
-/// A sheet that reads, of 3 nodes or more.
+/// A sheet that reads, of 2 leaves and 3 nodes or more. Its automata are spread over it.
 pub fn sheet_of(random: &mut Random, looks: Looks, size: Size) -> String {
     let mut w = Writer { random, text: String::new(), nodes: 0, plain: vec![], automata: 0, edges: 0 };
-    for _ in 0..2 {
+    for _ in 0..size.leaves {
         w.leaf();
     }
+    let apart = ((size.nodes - size.leaves) / 16).max(3);
     while w.nodes < size.nodes - 1 {
-        if w.automata < size.automata && w.edges < 220 && w.random.one_in(3) {
+        if w.automata < size.automata && w.edges < 220 && w.random.one_in(apart) {
             w.automaton(looks, size.states);
         } else {
             w.node();
@@ -79,16 +85,18 @@ pub fn sheet_of(random: &mut Random, looks: Looks, size: Size) -> String {
     w.text
 }
 
-/// A sheet of so many nodes and at every other limit: 16 automata of 16 states, 256 edges.
+/// A sheet of so many nodes and at every other limit: 16 automata of 16 states, 256 edges. Half of the nodes and three more are leaves, which the
+/// edges test.
 pub fn largest_sheet(random: &mut Random, nodes: usize) -> String {
-    let mut text = "P,0\nP,1\nT\n".to_string();
+    let leaves = nodes / 2 + 3;
+    let mut text: String = ["P,0\n", "P,1\n", "T\n"].into_iter().cycle().take(leaves).collect();
     for _ in 0..16 {
         text += &format!("M,16,{}\nG,{}\n", random.below(16), random.below(16));
         for s in 0..16 {
-            text += &format!("E,{s},{},{},{}\n", random.below(3), random.below(3), random.below(16));
+            text += &format!("E,{s},{},{},{}\n", random.below(3), random.below(leaves), random.below(16));
         }
     }
-    for k in 3..nodes {
+    for k in leaves..nodes {
         text += &format!("{},{},{}\n", random.pick(&['D', 'B']), random.below(16), random.below(k));
     }
     text
@@ -109,7 +117,7 @@ impl Writer<'_> {
         if self.random.one_in(4) {
             return self.leaf();
         }
-        let [a, b] = [0, 1].map(|_| self.random.below(self.nodes));
+        let [a, b] = [0, 1].map(|_| late(self.random, self.nodes));
         let is_plain = |k: &usize| self.plain.contains(k);
         let (line, plain) = match self.random.below(if self.automata > 0 { 9 } else { 3 }) {
             0 => (format!("N,{a}\n"), is_plain(&a)),
@@ -163,10 +171,16 @@ impl Writer<'_> {
 
     fn edge(&mut self, directions: [usize; 3], from: usize, to: usize) {
         let dir = *self.random.pick(&directions);
-        let test = if dir == 0 { self.random.below(self.nodes) } else { *self.random.pick(&self.plain) };
+        let test = if dir == 0 { late(self.random, self.nodes) } else { self.plain[late(self.random, self.plain.len())] };
         self.text += &format!("E,{from},{dir},{test},{to}\n");
         self.edges += 1;
     }
+}
+
+/// A number below n: every second one among the last eight.
+fn late(random: &mut Random, n: usize) -> usize {
+    let first = if random.one_in(2) { n.saturating_sub(8) } else { 0 };
+    first + random.below(n - first)
 }
 
 /// A fact for a sheet to speak of: often one of a few, so that nodes share it, else any.
@@ -311,20 +325,20 @@ fn other_lines(random: &mut Random, bytes: &[u8]) -> Vec<u8> {
 }
 
 /// A table with up to two of its numbers changed.
-pub fn perhaps_damaged_table(random: &mut Random, mut numbers: [u16; 1315]) -> [u16; 1315] {
+pub fn perhaps_damaged_table(random: &mut Random, mut numbers: [u16; TABLE]) -> [u16; TABLE] {
     for _ in 0..random.below(3) {
-        let used = [3 * numbers[1312] as usize, 6 * numbers[1313] as usize, 4 * numbers[1314] as usize];
+        let [nodes, automata, edges] = [0, 1, 2].map(|i| numbers[COUNTS_AT + i] as usize);
         let at = match random.below(5) {
-            0 => random.below(used[0] + 3).min(191),
-            1 => 192 + random.below(used[1] + 6).min(95),
-            2 => 288 + random.below(used[2] + 4).min(1023),
-            3 => 1312 + random.below(3),
+            0 => random.below(3 * nodes + 3).min(AUTOMATA_AT - 1),
+            1 => (AUTOMATA_AT + random.below(6 * automata + 6)).min(EDGES_AT - 1),
+            2 => (EDGES_AT + random.below(4 * edges + 4)).min(COUNTS_AT - 1),
+            3 => COUNTS_AT + random.below(3),
             _ => random.below(numbers.len()),
         };
         numbers[at] = match random.below(4) {
             0 => numbers[at].wrapping_add(1),
             1 => numbers[at].wrapping_sub(1),
-            2 => random.below(70) as u16,
+            2 => random.below(NODES + 6) as u16,
             _ => random.next() as u16,
         };
     }

@@ -10,7 +10,7 @@ mod kinds;
 mod limits;
 
 use checker::meaning::{Judged, Row};
-use checker::sheets;
+use checker::sheets::{self, NODES};
 use compare::counters::{compare_entry, compare_steps};
 use compare::judging::{compare_judging, compare_plain_row};
 use compare::lists::{compare_logs, Logs};
@@ -121,7 +121,7 @@ fn judge_case(random: &mut Random, kinds: &mut Kinds) {
 fn judge_and_show(random: &mut Random, kinds: &mut Kinds, table: &Table, entries: usize) -> bool {
     let words = log(random, entries);
     let judged = table.judged(&words);
-    let room = if random.one_in(8) { random.below(entries + 1) } else { entries + random.below(3) };
+    let room = room_beside(random, 2 * entries);
     let accepted = compare_judging(kinds, table, &words, &judged, room);
     for _ in 0..4 {
         show(random, kinds, table, &words, &judged);
@@ -149,11 +149,11 @@ fn show(random: &mut Random, kinds: &mut Kinds, table: &Table, words: &[u32], ju
 fn node_to_show(random: &mut Random, table: &Table) -> usize {
     let numbers = table.ours.numbers();
     let nodes = numbers[sheets::TABLE - 3] as usize;
-    let modal: Vec<usize> = (0..nodes.min(64)).filter(|k| [b'D', b'B'].map(u16::from).contains(&numbers[3 * k])).collect();
+    let modal: Vec<usize> = (0..nodes.min(NODES)).filter(|k| [b'D', b'B'].map(u16::from).contains(&numbers[3 * k])).collect();
     if random.one_in(24) {
         nodes + random.below(100)
     } else if random.one_in(24) {
-        (1 + random.below(0xff_ffff)) << 8 | random.below(nodes.clamp(1, 64))
+        (1 + random.below(0xff_ffff)) << 8 | random.below(nodes.clamp(1, NODES))
     } else if modal.is_empty() || random.one_in(8) {
         random.below(nodes.max(1))
     } else {
@@ -163,7 +163,7 @@ fn node_to_show(random: &mut Random, table: &Table) -> usize {
 
 /// Sheets and logs as large as they may be.
 fn largest_case(random: &mut Random, kinds: &mut Kinds) {
-    let table = Table::of(&largest_sheet(random, 64));
+    let table = Table::of(&largest_sheet(random, NODES));
     let accepted = judge_and_show(random, kinds, &table, 8);
     kinds.saw_if(accepted, "judge: sheet at every limit");
     let table = Table::of(&sheet(random, Looks::Both));
@@ -197,7 +197,7 @@ fn table_case(random: &mut Random, kinds: &mut Kinds) {
     kinds.saw_if(is_changed && looks_given, "rule_looks: changed table that some sheet gives");
     let words = log_of(random, 3);
     let judged = table.judged(&words);
-    let accepted = compare_judging(kinds, &table, &words, &judged, words.len());
+    let accepted = compare_judging(kinds, &table, &words, &judged, 2 * words.len());
     kinds.saw_if(is_changed && accepted, "judge: changed table that some sheet gives");
     let shown = show(random, kinds, &table, &words, &judged);
     kinds.saw_if(is_changed && shown, "walk: changed table that some sheet gives");
@@ -230,7 +230,7 @@ fn looks_only(ahead: bool) -> Looks {
 fn part_of(random: &mut Random, kinds: &mut Kinds, table: &Table, ahead: bool) -> bool {
     let row = any_row(random);
     let words = log_of(random, 6);
-    let room = room_beside(random, words.len());
+    let room = room_beside(random, 2 * words.len());
     compare_part(kinds, table, &Part { ahead, row, words: &words, room }).is_some()
 }
 
@@ -238,12 +238,12 @@ fn any_row(random: &mut Random) -> Row {
     std::array::from_fn(|_| random.next() as u16)
 }
 
-/// How many places to lend for so many words: now and then too few.
-fn room_beside(random: &mut Random, words: usize) -> usize {
-    if random.one_in(6) {
-        words / 2
-    } else {
-        words + random.below(3)
+/// How many places to lend where so many are needed: now and then half of them, or one less.
+fn room_beside(random: &mut Random, needed: usize) -> usize {
+    match random.below(12) {
+        0 => needed / 2,
+        1 => needed.saturating_sub(1),
+        _ => needed + random.below(3),
     }
 }
 
@@ -262,12 +262,12 @@ fn one_way_run(random: &mut Random, kinds: &mut Kinds, entries: &[usize]) {
     let ahead = random.one_in(2);
     let table = Table::of(&sheet(random, looks_only(ahead)));
     let parts = parts_of(random, entries);
-    compare_run(kinds, &table, &Run { ahead, parts: &parts, ignored: [0; 64] });
+    compare_run(kinds, &table, &Run { ahead, parts: &parts, ignored: [0; NODES] });
 }
 
 /// Parts of so many entries, some of them lent too few places.
 fn parts_of(random: &mut Random, entries: &[usize]) -> Vec<(Vec<u32>, usize)> {
-    entries.iter().map(|n| (log(random, *n), room_beside(random, *n))).collect()
+    entries.iter().map(|n| (log(random, *n), room_beside(random, 2 * n))).collect()
 }
 
 /// A sheet whose automata look each its own way, so that a spare one may look the other way than the rule. Its logs are cut both ways; runs are given
@@ -298,7 +298,7 @@ fn logs_case(random: &mut Random, kinds: &mut Kinds) {
     if random.one_in(4) {
         change_lengths(random, &mut lengths);
     }
-    let rooms = [room_beside(random, words.len()), room_beside(random, lengths.len())];
+    let rooms = [room_beside(random, 2 * words.len()), room_beside(random, lengths.len())];
     let accepted = compare_logs(kinds, &table, &Logs { words: &words, lengths: &lengths, rooms });
     kinds.saw_if(accepted && numbers != read, "judge_logs: changed table that some sheet gives");
 }
@@ -318,8 +318,12 @@ fn change_lengths(random: &mut Random, lengths: &mut Vec<u16>) {
 
 /// The profile of a sheet, or of a table that may have been changed, and the profile of that. Sizes from which both, one or none can be made.
 fn profile_case(random: &mut Random, kinds: &mut Kinds) {
-    let nodes = if random.one_in(3) { 16 + random.below(20) } else { 3 + random.below(13) };
-    let size = Size { nodes, automata: random.below(4), states: 4 };
+    let nodes = match random.below(12) {
+        0 => 60 + random.below(8),
+        1 | 2 => 16 + random.below(32),
+        _ => 3 + random.below(13),
+    };
+    let size = Size { leaves: 2, nodes, automata: random.below(4), states: 4 };
     let read = *Table::of(&sheet_of(random, Looks::Both, size)).ours.numbers();
     let numbers = if random.one_in(4) { perhaps_damaged_table(random, read) } else { read };
     let table = Table::from_numbers(numbers);

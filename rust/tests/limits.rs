@@ -1,4 +1,5 @@
 //! Sheets, profiles, what rules stand on, logs, counters, lists of logs, pages and walks at the limits.
+use crate::checker::sheets::NODES;
 use crate::compare::counters::{compare_entry, compare_steps};
 use crate::compare::judging::compare_judging;
 use crate::compare::lists::{compare_logs, Logs};
@@ -50,9 +51,9 @@ fn texts(kinds: &mut Kinds) {
 }
 
 /// Profiles of sheets at every limit but that of nodes, of a fact under as many N lines as there may be, and of profiles until one has too many
-/// nodes: 1, 3, 7, 15, 31, 63.
+/// nodes: 1, 3, 7, 15, 31, 63, 127.
 fn profiles(kinds: &mut Kinds) {
-    for nodes in [30, 31, 32, 64] {
+    for nodes in [31, 32, 62, 63, 64, NODES] {
         let mut random = Random(nodes as u64);
         let words = log(&mut random, 8);
         compare_profile(kinds, &Table::of(&largest_sheet(&mut random, nodes)), &words);
@@ -65,10 +66,10 @@ fn profiles(kinds: &mut Kinds) {
     }
 }
 
-/// The edge by which the rule looks is as far away as it may be: the last of 256; of the last of 16 automata; of a D under 61 N lines; of the
+/// The edge by which the rule looks is as far away as it may be: the last of 256; of the last of 16 automata; of a D under 125 N lines; of the
 /// first of 16 automata, where each of the others tests a D of the one before it.
 fn rules_that_look(kinds: &mut Kinds) {
-    let under: String = (2..63).map(|k| format!("N,{k}\n")).collect();
+    let under: String = (2..NODES - 1).map(|k| format!("N,{k}\n")).collect();
     let behind: String = (1..16).map(|m| format!("M,1,0\nG,0\nE,0,0,{m},0\nD,{m},0\n")).collect();
     let spare = "M,1,0\nE,0,1,0,0\n".repeat(15);
     for dir in [1, 2] {
@@ -82,7 +83,7 @@ fn rules_that_look(kinds: &mut Kinds) {
             let table = Table::of(&text);
             compare_looks(kinds, &table);
             for ahead in [true, false] {
-                compare_part(kinds, &table, &Part { ahead, row: [u16::MAX; 64], words: &[1, 0], room: 2 });
+                compare_part(kinds, &table, &Part { ahead, row: [u16::MAX; NODES], words: &[1, 0], room: 4 });
             }
         }
     }
@@ -122,7 +123,8 @@ fn counters(kinds: &mut Kinds) {
 
 /// As many nodes, automata, edges and states as there may be, and one more.
 fn counted_texts() -> Vec<String> {
-    let mut all = vec!["T\n".repeat(64), "T\n".repeat(65), "T\n".repeat(64) + "M,1,0\n"];
+    let mut all = [64, 65, NODES, NODES + 1].map(|nodes| "T\n".repeat(nodes)).to_vec();
+    all.push("T\n".repeat(NODES) + "M,1,0\n");
     all.extend([16, 17].map(|automata| "T\n".to_string() + &"M,1,0\nE,0,0,0,0\n".repeat(automata) + "T\n"));
     all.extend([256, 257].map(|edges| "T\nM,1,0\n".to_string() + &"E,0,0,0,0\n".repeat(edges) + "T\n"));
     all.extend([16, 17].map(|states| {
@@ -140,25 +142,28 @@ fn compare_long(kinds: &mut Kinds, text: &[u8]) {
     compare_page(kinds, b"T\n", text, 12);
 }
 
-/// A walk through every state at every entry: ahead to the last entry in one state, back to the first in the next. Edges of high numbers.
+/// A walk through every state at every entry: ahead to the last entry in one state, back to the first in the next. Edges and nodes of high numbers:
+/// its five nodes are the last that a sheet may have.
 fn longest_walk(kinds: &mut Kinds) {
-    let mut text = "T\nP,4\nP,31\nM,1,0\n".to_string() + &"E,0,0,0,0\n".repeat(225) + "M,16,0\nG,15\n";
+    let before = NODES - 5;
+    let mut text = "F\n".repeat(before) + "T\nP,4\nP,31\nM,1,0\n" + &"E,0,0,0,0\n".repeat(225) + "M,16,0\nG,15\n";
     for s in 0..16 {
-        text += &format!("E,{s},{},0,{s}\n", 1 + s % 2);
+        text += &format!("E,{s},{},{before},{s}\n", 1 + s % 2);
         if s < 15 {
-            text += &format!("E,{s},0,{},{}\n", 1 + s % 2, s + 1);
+            text += &format!("E,{s},0,{},{}\n", before + 1 + s % 2, s + 1);
         }
     }
-    text += "P,30\nD,1,3\n";
+    text += &format!("P,30\nD,1,{}\n", before + 3);
     let mut words = vec![0; 512];
     words[511] = 1 << 4;
     words[0] = 1 << 31 | 1 << 30;
     let table = Table::of(&text);
     let judged = table.judged(&words);
-    compare_judging(kinds, &table, &words, &judged, 512);
+    compare_judging(kinds, &table, &words, &judged, 1024);
     for room in [8190, 8191, 8192] {
-        compare_walk(kinds, &table, &words, &judged, [4, 0, room]);
+        compare_walk(kinds, &table, &words, &judged, [NODES - 1, 0, room]);
     }
+    compare_walk(kinds, &table, &words, &judged, [NODES, 0, 8191]);
     for room in [1024, 20_000, PAGE - 1, PAGE] {
         compare_page(kinds, text.as_bytes(), log_text(&words).as_bytes(), room);
     }
@@ -169,6 +174,6 @@ fn most_logs(kinds: &mut Kinds) {
     let table = Table::of("T\nP,1\nM,1,0\nG,0\nE,0,1,0,0\nD,0,1\n");
     for logs in [65_535, 65_536] {
         let (words, lengths) = ((0..logs as u32).collect::<Vec<_>>(), vec![1; logs]);
-        compare_logs(kinds, &table, &Logs { words: &words, lengths: &lengths, rooms: [logs, logs] });
+        compare_logs(kinds, &table, &Logs { words: &words, lengths: &lengths, rooms: [2 * logs, logs] });
     }
 }

@@ -15,6 +15,7 @@ pub mod Same
 pub mod Splitting
 pub mod Rule
 pub mod Packing
+pub mod Words
 pub mod Outcomes
 pub mod Runs
 pub mod Accepted

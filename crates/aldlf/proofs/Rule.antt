@@ -6,14 +6,14 @@ use mathlib.Core.Logic.{_⊎_, inl, inr}
 use mathlib.Core.Bool.{Bool, true, false, cond, not, _&&_, _||_, false≢true}
 use mathlib.Core.List.{List, [], _∷_}
 use lib.Dec.{eqb}
-use lib.ListN.{getD, length}
+use lib.ListN.{length}
 use borrow.Author.Tests.{eqb-true}
 use Rattle.aldlf.specs.Constants.{nodeLimit, stateLimit}
-use Rattle.aldlf.specs.Sheet.{Sheet, Line, T, F, P, N, A, O, D, B, byMode, bit}
+use Rattle.aldlf.specs.Sheet.{Sheet, Line, T, F, P, N, A, O, D, B, byMode}
 use Rattle.aldlf.specs.Stands.{Tests, Names, EdgeOf, stands, ruleSheet}
 use Rattle.aldlf.specs.Parts.{Bits, rowEntry, counts, looksOnly, Sound}
 use Rattle.aldlf.specs.Verdict.{facing, goal, modal, says, judge, saysFrom, rowOf, plain, plainLine, verdict}
-use Rattle.aldlf.specs.Outcomes.{partWords}
+use Rattle.aldlf.specs.Outcomes.{verdictAt, partWords}
 use Rattle.aldlf.specs.declared.Way.{Way}
 use Rattle.aldlf.proofs.Bools.{bool-cases, lt-or-le, and-left}
 use Rattle.aldlf.proofs.Agree.{entry-in}
@@ -22,7 +22,7 @@ use Rattle.aldlf.proofs.Across.{reached-across}
 use Rattle.aldlf.proofs.Same.{judge-same, rowOf-same}
 use Rattle.aldlf.proofs.Splitting.{Uses, Any}
 use Rattle.aldlf.proofs.Stands.{stands-in, stands-names, stands-iff, looks-iff}
-use Rattle.aldlf.proofs.Packing.{words-bit, words-unused}
+use Rattle.aldlf.proofs.Words.{words-bit, words-unused}
 
 -- The sheet that parts judge -----------------------------------------------------------------------------------------------------
 
@@ -225,9 +225,9 @@ unfolding ruleSheet
 rule-nodes S = refl
 
 -- every bit of its words, unused ones too, is its verdict
-pub rule-bits : (S : Sheet) → Sound S → (log : List ℕ) (ρ : Bits) (i k : ℕ) → i < length log
-    → bit (getD (partWords (ruleSheet S) ρ log) i 0) k ≡ judge (ruleSheet S) log ρ (suc k) k i
-rule-bits S sound log ρ i k l = go (lt-or-le k (ruleSheet S .nodes))
+pub rule-bits : (S : Sheet) → Sound S → (log : List ℕ) (ρ : Bits) (i k : ℕ) → i < length log → k < nodeLimit
+    → verdictAt (partWords (ruleSheet S) ρ log) i k ≡ judge (ruleSheet S) log ρ (suc k) k i
+rule-bits S sound log ρ i k l lk = go (lt-or-le k (ruleSheet S .nodes))
   where
     off : ruleSheet S .nodes ≤ k → stands S k ≡ false
     off b = go (bool-cases (stands S k))
@@ -236,6 +236,6 @@ rule-bits S sound log ρ i k l = go (lt-or-le k (ruleSheet S .nodes))
         go (inl o) = let a : k < S .nodes = stands-in S sound k o in absurd (omega (arith, rule-nodes S))
         go (inr o) = o
 
-    go : (k < ruleSheet S .nodes) ⊎ (ruleSheet S .nodes ≤ k) → bit (getD (partWords (ruleSheet S) ρ log) i 0) k ≡ judge (ruleSheet S) log ρ (suc k) k i
-    go (inl b) = words-bit (ruleSheet S) ρ log k i b l
-    go (inr b) = words-unused (ruleSheet S) ρ log k i b l ∙ sym (other-judge S sound log ρ (suc k) k i (off b))
+    go : (k < ruleSheet S .nodes) ⊎ (ruleSheet S .nodes ≤ k) → verdictAt (partWords (ruleSheet S) ρ log) i k ≡ judge (ruleSheet S) log ρ (suc k) k i
+    go (inl b) = words-bit (ruleSheet S) ρ log k i b lk l
+    go (inr b) = words-unused (ruleSheet S) ρ log k i b lk l ∙ sym (other-judge S sound log ρ (suc k) k i (off b))

@@ -1,5 +1,5 @@
 -- DEMAND 3 over the defined outcomes: wherever a run stands, its verdicts and its row are the joined log's by Definition 4. By splitting, call by call.
-use Prim.Native.Nat.{ℕ, zero, suc, _+_, _^_, _≤_, _<_}
+use Prim.Native.Nat.{ℕ, zero, suc, _+_, _*_, _^_, _≤_, _<_}
 use native.Mathlib.Omega.{arith}
 use mathlib.Core.Path.{_≡_, refl, sym, subst, ap, ap₂, _∙_, fun-ext}
 use mathlib.Core.Logic.{_⊎_, inl, inr, _↔_, Iff·trans}
@@ -10,11 +10,11 @@ use lib.ListN.{getD, length, take, drop, List·getD-eq-default}
 use lib.Seq.{take-at}
 use borrow.Author.Tests.{ltb-true, ltb-false}
 use Rattle.aldlf.specs.Constants.{nodeLimit, stateLimit, entryLimit}
-use Rattle.aldlf.specs.Sheet.{Sheet, bit}
+use Rattle.aldlf.specs.Sheet.{Sheet}
 use Rattle.aldlf.specs.Stands.{StandsOn, stands, ruleSheet}
 use Rattle.aldlf.specs.Parts.{counts, join, looksOnly, Sound}
 use Rattle.aldlf.specs.Verdict.{verdict, rowOf, plain}
-use Rattle.aldlf.specs.Outcomes.{packBits, tabulate, bitsOf, packRow, noRow, plainRow, partWords, logWords, firstNo, Part, wholeNumber, wholeOutcome, partNumber, partOutcome}
+use Rattle.aldlf.specs.Outcomes.{packBits, tabulate, verdictAt, halves, bitsOf, packRow, noRow, plainRow, partVerdicts, partWords, logWords, firstNo, Part, wholeNumber, wholeOutcome, partNumber, partOutcome}
 use Rattle.aldlf.specs.Run.{Call, Stand, afterCall, runFrom, run, IsPlain, RowSays, RowOf, Right}
 use Rattle.aldlf.specs.declared.Row.{Row}
 use Rattle.aldlf.specs.declared.Way.{Way}
@@ -23,9 +23,10 @@ use Rattle.aldlf.proofs.Plain.{verdict-iff, row-iff}
 use Rattle.aldlf.proofs.Cut.{nearAt, farAt}
 use Rattle.aldlf.proofs.Same.{judge-same, rowOf-same}
 use Rattle.aldlf.proofs.Splitting.{Uses, Any, length-join, split-near, split-far, split-row, cleared}
-use Rattle.aldlf.proofs.Stands.{stands-in, stands-iff, not-stood, stood-iff}
+use Rattle.aldlf.proofs.Stands.{stands-in, stands-iff, stood-lt, not-stood, stood-iff}
 use Rattle.aldlf.proofs.Rule.{rule-counts, rule-plain, rule-sound, rule-used, rule-verdict, other-verdict, rule-plain-row, rule-bits}
-use Rattle.aldlf.proofs.Packing.{length-tabulate, getD-tabulate, tabulate-ext, tabulate-join, packBits-lt, bitsOf-pack, words-length}
+use Rattle.aldlf.proofs.Packing.{length-tabulate, getD-tabulate, tabulate-ext, tabulate-join, packBits-lt, bitsOf-pack}
+use Rattle.aldlf.proofs.Words.{halves-join, words-length}
 use Rattle.aldlf.proofs.Outcomes.{whole-bit}
 
 -- Verdicts and row of a stand are the joined log's: the row on the bits that count, and whole once a call has returned it
@@ -47,25 +48,26 @@ module _ (w : Way) (S : Sheet) (sound : Sound S) (used : (k : ℕ) → Uses w S 
       ap (λ (r : Row). bitsOf r k s) row-right
       ∙ bitsOf-pack (rowOf w S (join w x (st .joined)) (plain S)) k s (sound .fits k s c .0) (sound .fits k s c .1)
 
-  near-right : partWords S (bitsOf (st .row)) x
+  near-right : partVerdicts S (bitsOf (st .row)) x
       ≡ tabulate (length x) (λ i. packBits (S .nodes) (λ k. verdict S (join w x (st .joined)) k (nearAt w (length (st .joined)) i)))
-  unfolding partWords
+  unfolding partVerdicts
   near-right = tabulate-ext (length x) _ _ (λ i l. ap (packBits (S .nodes)) (fun-ext (λ k.
       judge-same S sound x (bitsOf (st .row)) (rowOf w S (st .joined) (plain S)) (fine .agrees) (suc k) k i l
       ∙ sym (split-near w S used sound x (st .joined) (plain S) (suc k) k i l))))
 
-  far-right : logWords S (st .joined)
+  far-right : partVerdicts S (plain S) (st .joined)
       ≡ tabulate (length (st .joined)) (λ i. packBits (S .nodes) (λ k. verdict S (join w x (st .joined)) k (farAt w (length x) i)))
-  unfolding partWords
+  unfolding partVerdicts
   far-right = tabulate-ext (length (st .joined)) _ _ (λ i l. ap (packBits (S .nodes)) (fun-ext (λ k.
       sym (split-far w S used sound x (st .joined) (plain S) (suc k) k i l))))
 
-  words-right : (rest : List ℕ) → join w (take (length x) (partWords S (bitsOf (st .row)) x ++ rest)) (st .verdicts) ≡ logWords S (join w x (st .joined))
-  unfolding partWords
+  words-right : (rest : List ℕ) → join w (take (2 * length x) (partWords S (bitsOf (st .row)) x ++ rest)) (st .verdicts) ≡ logWords S (join w x (st .joined))
+  unfolding partVerdicts
   words-right rest =
-      ap₂ (join w) (take-at (partWords S (bitsOf (st .row)) x) rest (length x) (words-length S (bitsOf (st .row)) x) ∙ near-right) (fine .words ∙ far-right)
-      ∙ sym (tabulate-join w (length (join w x (st .joined))) (length x) (length (st .joined)) (length-join w x (st .joined))
+      ap₂ (join w) (take-at (partWords S (bitsOf (st .row)) x) rest (2 * length x) (words-length S (bitsOf (st .row)) x) ∙ ap halves near-right) (fine .words ∙ ap halves far-right)
+      ∙ sym (ap halves (tabulate-join w (length (join w x (st .joined))) (length x) (length (st .joined)) (length-join w x (st .joined))
       (λ i. packBits (S .nodes) (λ k. verdict S (join w x (st .joined)) k i)))
+      ∙ halves-join w _ _)
 
 -- A run judges `ruleSheet S`
 module _ (given : Bool) (w : Way) (S : Sheet) (sound : Sound S) where
@@ -75,10 +77,10 @@ module _ (given : Bool) (w : Way) (S : Sheet) (sound : Sound S) where
   call-fine : (st : Stand) → Fine w R st → (c : Call) → Fine w R (afterCall w st c (partOutcome given w S (st .row) (c .words) (c .buffer)))
   unfolding partOutcome partNumber
   call-fine st fine c =
-      go given (looksOnly w S) (leb (length (c .words)) entryLimit) (leb (length (c .words)) (length (c .buffer))) (λ e. e)
+      go given (looksOnly w S) (leb (length (c .words)) entryLimit) (leb (2 * length (c .words)) (length (c .buffer))) (λ e. e)
     where
       rest : List ℕ
-      rest = drop (length (c .words)) (c .buffer)
+      rest = drop (2 * length (c .words)) (c .buffer)
 
       answer : ℕ → Part
       answer q =
@@ -106,7 +108,7 @@ module _ (given : Bool) (w : Way) (S : Sheet) (sound : Sound S) where
   run-fine st fine (c ∷ cs) = run-fine (afterCall w st c (partOutcome given w S (st .row) (c .words) (c .buffer))) (call-fine st fine c) cs
 
   start-fine : (row : Row) → IsPlain S row → Fine w R (record { row = row; answered = false; joined = []; verdicts = [] })
-  unfolding partWords
+  unfolding partVerdicts
   start-fine row plain-row = record { words = refl; agrees = agrees; row = λ e. absurd (false≢true e) }
     where
       agrees : (k s : ℕ) → counts R (R .line k) s ≡ true → bitsOf row k s ≡ rowOf w R [] (plain R) k s
@@ -141,17 +143,17 @@ fine-right : (given : Bool) (w : Way) (S : Sheet) → Sound S → (st : Stand) �
 fine-right given w S sound st fine =
     record {
       entries = ap length (fine .words) ∙ words-length (ruleSheet S) (plain (ruleSheet S)) (st .joined);
-      verdicts = λ i k l o. Iff·trans (eq-iff (bit (getD (st .verdicts) i 0) k) (verdict S (st .joined) k i) (on i k l o)) (verdict-iff S (st .joined) k i l);
-      others = λ i k l o. bit-at i k l ∙ other-verdict S sound (st .joined) k i (not-stood S sound k o);
+      verdicts = λ i k l o. Iff·trans (eq-iff (verdictAt (st .verdicts) i k) (verdict S (st .joined) k i) (on i k l o)) (verdict-iff S (st .joined) k i l);
+      others = λ i k l lk o. bit-at i k l lk ∙ other-verdict S sound (st .joined) k i (not-stood S sound k o);
       row = λ e. rw (fine .row e) (packed-row w S sound (st .joined));
-      whole = λ buffer e i k l o. whole-bit given S (st .joined) buffer e i k l (stands-in S sound k (stands-iff S sound k .1 o)) ∙ sym (on i k l o);
+      whole = λ buffer e i k l o. whole-bit given S (st .joined) buffer e i k l (stands-in S sound k (stands-iff S sound k .1 o)) (stood-lt S sound k o) ∙ sym (on i k l o);
     }
   where
-    bit-at : (i k : ℕ) → i < length (st .joined) → bit (getD (st .verdicts) i 0) k ≡ verdict (ruleSheet S) (st .joined) k i
-    bit-at i k l = ap (λ (v : List ℕ). bit (getD v i 0) k) (fine .words) ∙ rule-bits S sound (st .joined) (plain (ruleSheet S)) i k l
+    bit-at : (i k : ℕ) → i < length (st .joined) → k < nodeLimit → verdictAt (st .verdicts) i k ≡ verdict (ruleSheet S) (st .joined) k i
+    bit-at i k l lk = ap (λ (v : List ℕ). verdictAt v i k) (fine .words) ∙ rule-bits S sound (st .joined) (plain (ruleSheet S)) i k l lk
 
-    on : (i k : ℕ) → i < length (st .joined) → StandsOn S k → bit (getD (st .verdicts) i 0) k ≡ verdict S (st .joined) k i
-    on i k l o = bit-at i k l ∙ rule-verdict S sound (st .joined) k i (stands-iff S sound k .1 o) l
+    on : (i k : ℕ) → i < length (st .joined) → StandsOn S k → verdictAt (st .verdicts) i k ≡ verdict S (st .joined) k i
+    on i k l o = bit-at i k l (stood-lt S sound k o) ∙ rule-verdict S sound (st .joined) k i (stands-iff S sound k .1 o) l
 
 -- with a table that no sheet gives every call is refused
 run-none : (w : Way) (S : Sheet) (st : Stand) (calls : List Call) → runFrom false w S st calls ≡ st
@@ -165,7 +167,7 @@ none-right w S row =
     record {
       entries = refl;
       verdicts = λ i k l o. absurd (omega arith);
-      others = λ i k l o. absurd (omega arith);
+      others = λ i k l lk o. absurd (omega arith);
       row = λ e. absurd (false≢true e);
       whole = λ buffer e i k l o. absurd (omega arith);
     }

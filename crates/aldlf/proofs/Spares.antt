@@ -7,7 +7,7 @@ use lib.ListN.{take}
 use Rattle.aldlf.specs.Sheet.{ahead, back, sheetOf}
 use Rattle.aldlf.specs.Stands.{standsOf, standsOnDir, ruleSheet}
 use Rattle.aldlf.specs.Verdict.{judge, rowOf}
-use Rattle.aldlf.specs.Outcomes.{plainRow, partWords, wholeNumber, wholeOutcome, partNumber, partOutcome}
+use Rattle.aldlf.specs.Outcomes.{plainRow, partVerdicts, wholeNumber, wholeOutcome, partNumber, partOutcome}
 use Rattle.aldlf.specs.Jobs.{spare, chain, tested}
 use Rattle.aldlf.specs.declared.Way.the-variants.{Ahead, Back}
 
@@ -39,18 +39,18 @@ spare-looks = (refl, refl)
 abbrev log : List ℕ
 log = 1 ∷ 2 ∷ 4 ∷ []
 
-pub spare-ahead : partOutcome true Ahead (sheetOf spare) (plainRow (ruleSheet (sheetOf spare))) log (0 ∷ 0 ∷ 0 ∷ 7 ∷ []) .buffer ≡ 9 ∷ 11 ∷ 1 ∷ 7 ∷ []
-unfolding sheetOf standsOf standsOnDir ruleSheet judge rowOf partWords partNumber partOutcome
+pub spare-ahead : partOutcome true Ahead (sheetOf spare) (plainRow (ruleSheet (sheetOf spare))) log (3 ∷ 3 ∷ 3 ∷ 3 ∷ 3 ∷ 3 ∷ 7 ∷ []) .buffer ≡ 9 ∷ 0 ∷ 11 ∷ 0 ∷ 1 ∷ 0 ∷ 7 ∷ []
+unfolding sheetOf standsOf standsOnDir ruleSheet judge rowOf partVerdicts partNumber partOutcome
 spare-ahead = refl
 
-pub spare-row : take 5 (partOutcome true Ahead (sheetOf spare) (plainRow (ruleSheet (sheetOf spare))) (2 ∷ 4 ∷ []) (0 ∷ 0 ∷ []) .row .bits) ≡ 0 ∷ 0 ∷ 0 ∷ 1 ∷ 0 ∷ []
-unfolding sheetOf standsOf standsOnDir ruleSheet judge rowOf partWords partNumber partOutcome
+pub spare-row : take 5 (partOutcome true Ahead (sheetOf spare) (plainRow (ruleSheet (sheetOf spare))) (2 ∷ 4 ∷ []) (0 ∷ 0 ∷ 0 ∷ 0 ∷ []) .row .bits) ≡ 0 ∷ 0 ∷ 0 ∷ 1 ∷ 0 ∷ []
+unfolding sheetOf standsOf standsOnDir ruleSheet judge rowOf partVerdicts partNumber partOutcome
 spare-row = refl
 
 pub spare-back : partOutcome true Back (sheetOf spare) (plainRow (ruleSheet (sheetOf spare))) log (0 ∷ 0 ∷ 0 ∷ []) .number ≡ 34
 unfolding sheetOf standsOf standsOnDir ruleSheet partNumber partOutcome
 spare-back = refl
 
-pub spare-whole : wholeOutcome true (sheetOf spare) log (0 ∷ 0 ∷ 0 ∷ []) .buffer ≡ 9 ∷ 15 ∷ 5 ∷ []
-unfolding sheetOf standsOf ruleSheet judge partWords wholeNumber wholeOutcome
+pub spare-whole : wholeOutcome true (sheetOf spare) log (0 ∷ 0 ∷ 0 ∷ 0 ∷ 0 ∷ 0 ∷ []) .buffer ≡ 9 ∷ 0 ∷ 15 ∷ 0 ∷ 5 ∷ 0 ∷ []
+unfolding sheetOf standsOf ruleSheet judge partVerdicts wholeNumber wholeOutcome
 spare-whole = refl

@@ -318,6 +318,10 @@ module _ (S : Sheet) (sound : Sound S) where
       flagged (named {k = j} s z) = stands-names j _ (flagged s) z
 
 module _ (S : Sheet) (sound : Sound S) (k : ℕ) where
+  -- a node that the rule stands on is below the limit
+  pub stood-lt : StandsOn S k → k < nodeLimit
+  stood-lt o = omega (arith, stands-in S sound k (stands-iff S sound k .1 o), sound .few)
+
   -- a node that the rule does not stand on has no flag
   pub not-stood : ¬ (StandsOn S k) → stands S k ≡ false
   not-stood o = go (bool-cases (stands S k))

@@ -1,13 +1,13 @@
 -- The starred jobs that document 01 works by hand, as one list, and what it is for all of them to come out right.
-use Prim.Native.Nat.{ℕ, zero, suc, _+_}
+use Prim.Native.Nat.{ℕ, zero, suc, _+_, _*_}
 use mathlib.Core.Path.{_≡_}
 use mathlib.Core.Bool.{Bool, true, false}
 use mathlib.Core.List.{List, [], _∷_, _++_}
-use lib.ListN.{length, replicate}
+use lib.ListN.{length, drop, replicate}
 use Rattle.aldlf.specs.Constants.{nodeLimit, automatonLimit, edgeLimit, letterT, letterF, letterP, letterN, letterO, letterD, letterB}
-use Rattle.aldlf.specs.Sheet.{sheetOf, noLine, noEdge, noAutomaton, bit}
+use Rattle.aldlf.specs.Sheet.{sheetOf, noLine, noEdge, noAutomaton}
 use Rattle.aldlf.specs.Stands.{ruleSheet}
-use Rattle.aldlf.specs.Outcomes.{one, bitsOf, plainRow, Whole, wholeOutcome, Part, partOutcome}
+use Rattle.aldlf.specs.Outcomes.{one, tabulate, verdictAt, bitsOf, plainRow, Whole, wholeOutcome, Part, partOutcome}
 use Rattle.aldlf.specs.Walks.{Shown, walkOutcome}
 use Rattle.aldlf.specs.declared.Table.{Table}
 use Rattle.aldlf.specs.declared.NodeLine.{NodeLine}
@@ -98,11 +98,9 @@ lent n = replicate (n + 2) 9
 abbrev filled : List ℕ → List ℕ
 filled wanted = wanted ++ lent 0
 
--- A buffer with bit k in place of each of its first n words; the others are as they are.
+-- A buffer with the verdict on node k in place of the two words of each of its first n entries; the others are as they are.
 abbrev column : (k n : ℕ) → List ℕ → List ℕ
-column k zero ws = ws
-column k (suc n) [] = []
-column k (suc n) (w ∷ ws) = one (bit w k) ∷ column k n ws
+column k n ws = tabulate n (λ i. one (verdictAt ws i k)) ++ drop (2 * n) ws
 
 -- The words of facts 0, 1, 2 and of none: `0`, `1`, `2`, `-`.
 abbrev f0 : ℕ
@@ -125,10 +123,10 @@ pub data Job : Type 0 where
 module _ (given : Table → Bool) where
   -- judging a whole log, judging a part and showing a walk of n edges, each with a lent buffer
   abbrev wholeOf : Table → List ℕ → Whole
-  wholeOf t log = wholeOutcome (given t) (sheetOf t) log (lent (length log))
+  wholeOf t log = wholeOutcome (given t) (sheetOf t) log (lent (2 * length log))
 
   abbrev pub partOf : Table → Row → List ℕ → Part
-  partOf t row words = partOutcome (given t) Ahead (sheetOf t) row words (lent (length words))
+  partOf t row words = partOutcome (given t) Ahead (sheetOf t) row words (lent (2 * length words))
 
   abbrev shownOf : Table → List ℕ → (k i n : ℕ) → Shown
   shownOf t log k i n = walkOutcome (given t) (sheetOf t) log k i (lent n)

@@ -1,12 +1,12 @@
 -- What the calls that judge answer: the questions in order, the result, and the whole content of the lent buffer.
-use Prim.Native.Nat.{ℕ, zero, suc, _+_, _*_, _-_, _^_, _≤_, _<_}
+use Prim.Native.Nat.{ℕ, zero, suc, _+_, _*_, _/_, _%_, _-_, _^_, _≤_, _<_}
 use mathlib.Core.Path.{_≡_}
 use mathlib.Core.Logic.{_↔_}
 use mathlib.Core.Bool.{Bool, true, false, _&&_}
 use mathlib.Core.List.{List, [], _∷_, _++_}
 use lib.Dec.{leb}
 use lib.ListN.{getD, length, drop, replicate}
-use Rattle.aldlf.specs.Constants.{nodeLimit, stateLimit, entryLimit}
+use Rattle.aldlf.specs.Constants.{nodeLimit, stateLimit, entryLimit, wordBits}
 use Rattle.aldlf.specs.Sheet.{Sheet, bit}
 use Rattle.aldlf.specs.Meaning.{Holds}
 use Rattle.aldlf.specs.Stands.{StandsOn, ruleSheet}
@@ -35,9 +35,18 @@ abbrev pub countBelow : ℕ → (ℕ → Bool) → ℕ
 countBelow zero p = 0
 countBelow (suc n) p = one (p n) + countBelow n p
 
--- In how many of the first n words bit k is set.
+-- The verdict on node k at entry i, in the verdict words of a log or a part: nodes 0 to 63 are the bits of word 2 i, the others those of word 2 i + 1.
+abbrev pub verdictAt : List ℕ → (i k : ℕ) → Bool
+verdictAt words i k = bit (getD words (2 * i + k / wordBits) 0) (k % wordBits)
+
+-- At how many of the first n entries node k holds, by their verdict words.
 abbrev pub bitCount : (n : ℕ) → List ℕ → (k : ℕ) → ℕ
-bitCount n words k = countBelow n (λ i. bit (getD words i 0) k)
+bitCount n words k = countBelow n (λ i. verdictAt words i k)
+
+-- Numbers as two words each: the lowest 64 bits, then the others.
+abbrev pub halves : List ℕ → List ℕ
+halves [] = []
+halves (x ∷ xs) = x % 2 ^ wordBits ∷ x / 2 ^ wordBits ∷ halves xs
 
 -- A row as it is handed over: bit s of number k.
 abbrev pub bitsOf : Row → Bits
@@ -51,11 +60,15 @@ packRow ρ = record { bits = tabulate nodeLimit (λ k. packBits stateLimit (λ s
 abbrev pub noRow : Row
 noRow = record { bits = replicate nodeLimit 0 }
 
--- The verdict words of a part with the row ρ beside it: word i is entry i's, bit k node k's.
-unfoldable pub partWords : Sheet → Bits → List ℕ → List ℕ
-partWords S ρ words = tabulate (length words) (λ i. packBits (S .nodes) (λ k. judge S words ρ (suc k) k i))
+-- The verdicts of a part with the row ρ beside it, a number for each entry: bit k is node k's.
+unfoldable pub partVerdicts : Sheet → Bits → List ℕ → List ℕ
+partVerdicts S ρ words = tabulate (length words) (λ i. packBits (S .nodes) (λ k. judge S words ρ (suc k) k i))
 
--- The verdict words of a whole log: bit k of word i is the verdict on node k at entry i.
+-- Its verdict words: two for each entry.
+abbrev pub partWords : Sheet → Bits → List ℕ → List ℕ
+partWords S ρ words = halves (partVerdicts S ρ words)
+
+-- The verdict words of a whole log.
 abbrev pub logWords : Sheet → List ℕ → List ℕ
 logWords S log = partWords S (plain S) log
 
@@ -87,52 +100,52 @@ logFits log = leb 1 (length log) && leb (length log) entryLimit
 -- Questions 31 (`given`: some sheet gives the table), 32 and 33 of a whole log.
 unfoldable pub wholeNumber : Bool → List ℕ → List ℕ → ℕ
 wholeNumber given log buffer =
-    firstNo ((given, 31) ∷ (logFits log, 32) ∷ (leb (length log) (length buffer), 33) ∷ [])
+    firstNo ((given, 31) ∷ (logFits log, 32) ∷ (leb (2 * length log) (length buffer), 33) ∷ [])
 
 -- Judging a whole log: the verdict words in the first places, the rest as lent; a refusal alters nothing.
 unfoldable pub wholeOutcome : Bool → Sheet → List ℕ → List ℕ → Whole
 wholeOutcome given S log buffer =
     elim (wholeNumber given log buffer) [
-      | zero ↦ record { number = 0; held = heldIn S log; buffer = logWords S log ++ drop (length log) buffer }
+      | zero ↦ record { number = 0; held = heldIn S log; buffer = logWords S log ++ drop (2 * length log) buffer }
       | suc q ↦ record { number = suc q; held = 0; buffer = buffer }
     ]
 
 -- DEMAND 2, of the outcome o of judging a log that was accepted, in a buffer that was lent.
 pub record WholeRight (S : Sheet) (log lent : List ℕ) (o : Whole) : Type 0 where
-  -- bit k of word i is Definition 4's verdict on node k at entry i
-  pub verdicts : (i k : ℕ) → i < length log → k < S .nodes → (bit (getD (o .buffer) i 0) k ≡ true) ↔ Holds S log k i
+  -- the verdict on node k at entry i, in the words, is Definition 4's
+  pub verdicts : (i k : ℕ) → i < length log → k < S .nodes → (verdictAt (o .buffer) i k ≡ true) ↔ Holds S log k i
   -- unused bits are 0
-  pub unused : (i k : ℕ) → i < length log → S .nodes ≤ k → bit (getD (o .buffer) i 0) k ≡ false
-  -- the count is that of the log's words in which the rule's bit is set
+  pub unused : (i k : ℕ) → i < length log → S .nodes ≤ k → k < nodeLimit → verdictAt (o .buffer) i k ≡ false
+  -- the count is that of the entries at which the rule's bit is set
   pub counted : o .held ≡ bitCount (length log) (o .buffer) (S .nodes - 1)
   -- the buffer has its length, and the words beyond the log are as lent
   pub size : length (o .buffer) ≡ length lent
-  pub kept : drop (length log) (o .buffer) ≡ drop (length log) lent
+  pub kept : drop (2 * length log) (o .buffer) ≡ drop (2 * length log) lent
 
 -- Questions 31, 34, 32 and 33 of a part.
 unfoldable pub partNumber : Bool → Way → Sheet → List ℕ → List ℕ → ℕ
 partNumber given w S words buffer =
-    firstNo ((given, 31) ∷ (looksOnly w S, 34) ∷ (leb (length words) entryLimit, 32) ∷ (leb (length words) (length buffer), 33) ∷ [])
+    firstNo ((given, 31) ∷ (looksOnly w S, 34) ∷ (leb (length words) entryLimit, 32) ∷ (leb (2 * length words) (length buffer), 33) ∷ [])
 
 -- Judging a part, of the nodes that the rule stands on: its words in the first places, the rest as lent, and its row; a refusal alters nothing.
 unfoldable pub partOutcome : Bool → Way → Sheet → Row → List ℕ → List ℕ → Part
 partOutcome given w S row words buffer =
     elim (partNumber given w S words buffer) [
-      | zero ↦ record { number = 0; row = packRow (rowOf w (ruleSheet S) words (bitsOf row)); buffer = partWords (ruleSheet S) (bitsOf row) words ++ drop (length words) buffer }
+      | zero ↦ record { number = 0; row = packRow (rowOf w (ruleSheet S) words (bitsOf row)); buffer = partWords (ruleSheet S) (bitsOf row) words ++ drop (2 * length words) buffer }
       | suc q ↦ record { number = suc q; row = noRow; buffer = buffer }
     ]
 
 -- WHAT A PART GIVES, of the outcome o of judging a part that was accepted, with this row beside it, in a buffer that was lent.
 pub record PartRight (w : Way) (S : Sheet) (row : Row) (words lent : List ℕ) (o : Part) : Type 0 where
-  -- bit k of word i is the meaning's verdict on node k, one that the rule stands on, at entry i of the part
-  pub verdicts : (i k : ℕ) → i < length words → StandsOn S k → (bit (getD (o .buffer) i 0) k ≡ true) ↔ HoldsIn S words (bitsOf row) k i
+  -- the verdict on node k, one that the rule stands on, at entry i of the part, is the meaning's
+  pub verdicts : (i k : ℕ) → i < length words → StandsOn S k → (verdictAt (o .buffer) i k ≡ true) ↔ HoldsIn S words (bitsOf row) k i
   -- all other bits are 0
-  pub others : (i k : ℕ) → i < length words → ¬ (StandsOn S k) → bit (getD (o .buffer) i 0) k ≡ false
+  pub others : (i k : ℕ) → i < length words → k < nodeLimit → ¬ (StandsOn S k) → verdictAt (o .buffer) i k ≡ false
   -- bit s of number k of the row that it gives, likewise
   pub row-gives : (k s : ℕ) → k < nodeLimit → s < stateLimit → (bitsOf (o .row) k s ≡ true) ↔ (StandsOn S k × RowGives w S words (bitsOf row) k s)
   -- the buffer has its length, and the words beyond the part are as lent
   pub size : length (o .buffer) ≡ length lent
-  pub kept : drop (length words) (o .buffer) ≡ drop (length words) lent
+  pub kept : drop (2 * length words) (o .buffer) ≡ drop (2 * length words) lent
 
 -- The plain row of a sheet as it is handed over, ignored bits 0. Parts of a sheet S start from the plain row of `ruleSheet S`.
 abbrev pub plainRow : Sheet → Row

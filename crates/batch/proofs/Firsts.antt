@@ -1,5 +1,5 @@
 -- The first log that does not pass: one log more, the end of the list, and what questions 32 and 33 of the list say where none is found.
-use Prim.Native.Nat.{ℕ, zero, suc, _+_, _-_, _≤_, _<_}
+use Prim.Native.Nat.{ℕ, zero, suc, _+_, _*_, _/_, _-_, _≤_, _<_}
 use native.Mathlib.Omega.{arith}
 use native.Mathlib.Numerals.{add-one}
 use mathlib.Core.Path.{_≡_, refl, sym, subst, ap, ap₂, _∙_}
@@ -41,11 +41,11 @@ fits-yes words k at n e =
       there = omega arith;
     }
 
-pub room-yes : (verdicts held k at n : ℕ) → hasRoom verdicts held k at n ≡ true → at ≤ verdicts → (at + n ≤ verdicts) × (k < held)
+pub room-yes : (verdicts held k at n : ℕ) → hasRoom verdicts held k at n ≡ true → 2 * at ≤ verdicts → (2 * (at + n) ≤ verdicts) × (k < held)
 room-yes verdicts held k at n e l =
-    let a = leb n (verdicts - at) in
+    let a = leb (2 * n) (verdicts - 2 * at) in
     let b = ltb k held in
-    let h = leb-true n (verdicts - at) (and-left a b e) in
+    let h = leb-true (2 * n) (verdicts - 2 * at) (and-left a b e) in
     (omega arith, ltb-true k held (and-right a b e))
 
 -- From log k on -------------------------------------------------------------------------------------------------------------
@@ -180,8 +180,8 @@ module _ (pass : ℕ → ℕ → ℕ → Bool) (limit : ℕ) (ends : (k at n : �
 pub fits-within : (words : ℕ) (ns : List ℕ) → firstLog (fits words) 0 0 ns ≡ 0 → total ns ≤ words
 fits-within words ns e = omega (arith, within (fits words) words (λ k at n p l. fits-yes words k at n p .there) 0 0 ns e (omega arith))
 
-pub room-within : (verdicts held : ℕ) (ns : List ℕ) → firstLog (hasRoom verdicts held) 0 0 ns ≡ 0 → total ns ≤ verdicts
-room-within verdicts held ns e = omega (arith, within (hasRoom verdicts held) verdicts (λ k at n p l. room-yes verdicts held k at n p l .0) 0 0 ns e (omega arith))
+pub room-within : (verdicts held : ℕ) (ns : List ℕ) → firstLog (hasRoom verdicts held) 0 0 ns ≡ 0 → 2 * total ns ≤ verdicts
+room-within verdicts held ns e = omega (arith, within (hasRoom verdicts held) (verdicts / 2) (λ k at n p l. omega (arith, room-yes verdicts held k at n p (omega arith) .0)) 0 0 ns e (omega arith))
 
 -- Question 32 of the list ---------------------------------------------------------------------------------------------------
 

@@ -1,5 +1,5 @@
 -- The logs one after the other: what stands in both buffers once the first k logs are judged, one log more, and the end of the list.
-use Prim.Native.Nat.{ℕ, zero, suc, _+_, _-_, _≤_, _<_}
+use Prim.Native.Nat.{ℕ, zero, suc, _+_, _*_, _-_, _≤_, _<_}
 use native.Mathlib.Omega.{arith}
 use native.Mathlib.Numerals.{add-one}
 use mathlib.Core.Path.{_≡_, refl, sym, ap, ap₂, _∙_}
@@ -9,7 +9,7 @@ use lib.Seq.{drop-cons, drop-drop, take-at, drop-at, set-at, append-snoc, take-a
 use Rattle.aldlf.specs.Sheet.{Sheet}
 use Rattle.aldlf.specs.Verdict.{plain}
 use Rattle.aldlf.specs.Outcomes.{logWords, heldIn}
-use Rattle.aldlf.proofs.Packing.{words-length}
+use Rattle.aldlf.proofs.Words.{words-length}
 use Rattle.batch.specs.Right.{logAt}
 use Rattle.batch.specs.Batch.{logsOf, total, wordsOf, countsOf, firstLog, fits, hasRoom, misfit, roomless, verdictsAfter, heldAfter}
 use Rattle.batch.proofs.Firsts.{Fits, fits-yes, room-yes, first-yes, total-next, total-all, misfit-yes}
@@ -61,10 +61,10 @@ pub record Judged (S : Sheet) (words ns lent lentHeld verdicts held : List ℕ) 
   pub fit : firstLog (fits (length words)) k at (drop k ns) ≡ 0
   pub room : firstLog (hasRoom (length lent) (length lentHeld)) k at (drop k ns) ≡ 0
   pub in-words : at ≤ length words
-  pub in-lent : at ≤ length lent
+  pub in-lent : 2 * at ≤ length lent
   pub held≤ : k ≤ length lentHeld
-  pub front : length (wordsOf S (logsOf words (take k ns))) ≡ at
-  pub words-are : verdicts ≡ wordsOf S (logsOf words (take k ns)) ++ drop at lent
+  pub front : length (wordsOf S (logsOf words (take k ns))) ≡ 2 * at
+  pub words-are : verdicts ≡ wordsOf S (logsOf words (take k ns)) ++ drop (2 * at) lent
   pub counts-are : held ≡ countsOf S (logsOf words (take k ns)) ++ drop k lentHeld
 
 pub start : (S : Sheet) (words ns lent lentHeld : List ℕ) → misfit (length words) ns ≡ 0 → roomless (length lent) (length lentHeld) ns ≡ 0 → Judged S words ns lent lentHeld lent lentHeld 0 0
@@ -84,14 +84,14 @@ start S words ns lent lentHeld m r = record {
 -- what is known of log k
 pub record Turn (words ns lent lentHeld : List ℕ) (at k : ℕ) : Type 0 where
   pub log : Fits (length words) k at (getD ns k 0)
-  pub verdicts-room : at + getD ns k 0 ≤ length lent
+  pub verdicts-room : 2 * (at + getD ns k 0) ≤ length lent
   pub held-room : k < length lentHeld
   pub fit : firstLog (fits (length words)) (k + 1) (at + getD ns k 0) (drop (k + 1) ns) ≡ 0
   pub room : firstLog (hasRoom (length lent) (length lentHeld)) (k + 1) (at + getD ns k 0) (drop (k + 1) ns) ≡ 0
 
 module _ (S : Sheet) (words ns lent lentHeld verdicts held : List ℕ) (at k : ℕ) (J : Judged S words ns lent lentHeld verdicts held at k) where
   pub same-verdicts : length verdicts ≡ length lent
-  same-verdicts = ap length (J .words-are) ∙ length-append (wordsOf S (logsOf words (take k ns))) (drop at lent) ∙ omega (arith, J .front, length-drop at lent, J .in-lent)
+  same-verdicts = ap length (J .words-are) ∙ length-append (wordsOf S (logsOf words (take k ns))) (drop (2 * at) lent) ∙ omega (arith, J .front, length-drop (2 * at) lent, J .in-lent)
 
   pub same-held : length held ≡ length lentHeld
   same-held =
@@ -120,8 +120,15 @@ module _ (S : Sheet) (words ns lent lentHeld verdicts held : List ℕ) (at k : �
     pub log-long : length (take m (drop at words)) ≡ getD ns k 0
     log-long = length-take-le m (drop at words) (omega (arith, length-drop at words, turn .log .there)) ∙ size
 
-    pub room-long : length (take m (drop at verdicts)) ≡ getD ns k 0
-    room-long = length-take-le m (drop at verdicts) (omega (arith, length-drop at verdicts, same-verdicts, turn .verdicts-room)) ∙ size
+    -- and how many places of the verdicts
+    abbrev v : ℕ
+    v = 2 * (at + getD ns k 0) - 2 * at
+
+    twice : v ≡ 2 * getD ns k 0
+    twice = omega arith
+
+    pub room-long : length (take v (drop (2 * at) verdicts)) ≡ 2 * length (take m (drop at words))
+    room-long = length-take-le v (drop (2 * at) verdicts) (omega (arith, length-drop (2 * at) verdicts, same-verdicts, turn .verdicts-room)) ∙ omega (arith, twice, log-long)
 
     words-next : wordsOf S (logsOf words (take (k + 1) ns)) ≡ wordsOf S (logsOf words (take k ns)) ++ logWords S (take m (drop at words))
     words-next =
@@ -134,12 +141,13 @@ module _ (S : Sheet) (words ns lent lentHeld verdicts held : List ℕ) (at k : �
         ∙ ap (λ (l : List ℕ). countsOf S (logsOf words (take k ns)) ++ (heldIn S l ∷ [])) (sym here)
 
     pub next : (new : List ℕ) (x : ℕ) → new ≡ logWords S (take m (drop at words)) → x ≡ heldIn S (take m (drop at words))
-        → Judged S words ns lent lentHeld (take at verdicts ++ (new ++ drop m (drop at verdicts))) (set held k x) (at + getD ns k 0) (k + 1)
+        → Judged S words ns lent lentHeld (take (2 * at) verdicts ++ (new ++ drop v (drop (2 * at) verdicts))) (set held k x) (at + getD ns k 0) (k + 1)
     next new x e f =
         let front = wordsOf S (logsOf words (take k ns)) in
         let counts = countsOf S (logsOf words (take k ns)) in
         let log = take m (drop at words) in
-        let long : length (logWords S log) ≡ getD ns k 0 = words-length S (plain S) log ∙ log-long in
+        let long : length (logWords S log) ≡ 2 * getD ns k 0 = words-length S (plain S) log ∙ ap (λ (n : ℕ). 2 * n) log-long in
+        let end : 2 * at + v ≡ 2 * (at + getD ns k 0) = omega arith in
         let few : length counts ≡ k = counts-long S words (take k ns) ∙ length-take-le k ns (J .k≤) in
         record {
           k≤ = omega arith;
@@ -151,10 +159,9 @@ module _ (S : Sheet) (words ns lent lentHeld verdicts held : List ℕ) (at k : �
           held≤ = omega (arith, turn .held-room);
           front = ap length words-next ∙ length-append front (logWords S log) ∙ omega (arith, J .front, long);
           words-are =
-              ap₂ (λ (v w : List ℕ). take at v ++ (w ++ drop m (drop at v))) (J .words-are) e
-              ∙ sym (put-words front (logWords S log) lent at m (J .front) (long ∙ sym size))
-              ∙ ap (λ (j : ℕ). (front ++ logWords S log) ++ drop (at + j) lent) size
-              ∙ ap (λ (w : List ℕ). w ++ drop (at + getD ns k 0) lent) (sym words-next);
+              ap₂ (λ (l w : List ℕ). take (2 * at) l ++ (w ++ drop v (drop (2 * at) l))) (J .words-are) e
+              ∙ sym (put-words front (logWords S log) lent (2 * at) v (J .front) (long ∙ sym twice))
+              ∙ ap₂ (λ (w : List ℕ) (j : ℕ). w ++ drop j lent) (sym words-next) end;
           counts-are =
               ap₂ (λ (l : List ℕ) (y : ℕ). set l k y) (J .counts-are) f
               ∙ put-count counts lentHeld k (heldIn S log) few (turn .held-room)
@@ -167,8 +174,8 @@ module _ (S : Sheet) (words ns lent lentHeld verdicts held : List ℕ) (at k : �
     all-words =
         let end : at ≡ length words = omega (arith, J .place, total-all ns k e, misfit-yes (length words) ns m .1, J .in-words) in
         J .words-are
-        ∙ ap (λ (l : List ℕ). wordsOf S (logsOf words l) ++ drop at lent) (take-all k ns e)
-        ∙ ap (λ (a : ℕ). wordsOf S (logsOf words ns) ++ drop a lent) end
+        ∙ ap (λ (l : List ℕ). wordsOf S (logsOf words l) ++ drop (2 * at) lent) (take-all k ns e)
+        ∙ ap (λ (a : ℕ). wordsOf S (logsOf words ns) ++ drop (2 * a) lent) end
 
     pub all-counts : held ≡ heldAfter S words ns lentHeld
     all-counts =

@@ -1,5 +1,5 @@
 -- EVERY ANSWER IS THE RIGHT ONE: a list is accepted exactly where it should be, and a refusal is about the first log that its question fails of.
-use Prim.Native.Nat.{ℕ, zero, suc, _+_, _-_, _≤_, _<_}
+use Prim.Native.Nat.{ℕ, zero, suc, _+_, _*_, _-_, _≤_, _<_}
 use native.Mathlib.Omega.{arith}
 use mathlib.Core.Path.{_≡_, refl, sym, subst, ap, _∙_}
 use mathlib.Core.Logic.{_⊎_, inl, inr, _↔_}
@@ -98,7 +98,7 @@ module _ (given : Bool) (words ns verdicts held : List ℕ) where
   accepts g m r =
       let f = misfit-yes (length words) ns m in
       let all : total ns ≡ length words = omega (arith, f .1, fits-within (length words) ns (f .0)) in
-      let rooms : total ns ≤ length verdicts = room-within (length verdicts) (length held) ns r in
+      let rooms : 2 * total ns ≤ length verdicts = room-within (length verdicts) (length held) ns r in
       let fit : (j : ℕ) → j < length ns → Fits (length words) j (total (take j ns)) (getD ns j 0) = λ j h. fits-yes (length words) j (total (take j ns)) (getD ns j 0) (all-pass (fits (length words)) ns (f .0) j h) in
       let room : (j : ℕ) → j < length ns → j < length held = λ j h.
       room-yes (length verdicts) (length held) j (total (take j ns)) (getD ns j 0) (all-pass (hasRoom (length verdicts) (length held)) ns r j h) (omega (arith, total-le ns j)) .1 in
@@ -127,7 +127,7 @@ module _ (given : Bool) (words ns verdicts held : List ℕ) where
     room j h =
         let n = getD ns j 0 in
         let e = ends j h in
-        and-intro (le-leb n (length verdicts - total (take j ns)) (omega (arith, a .verdicts-room))) (lt-ltb j (length held) (omega (arith, a .held-room)))
+        and-intro (le-leb (2 * n) (length verdicts - 2 * total (take j ns)) (omega (arith, a .verdicts-room))) (lt-ltb j (length held) (omega (arith, a .held-room)))
 
     accepted-so : answerTo given (length words) ns (length verdicts) (length held) .number ≡ 0
     accepted-so =

@@ -1,5 +1,5 @@
 -- What judging a list of logs answers, for every input: the questions in order, the verdict words and the counts of all logs, both lent buffers.
-use Prim.Native.Nat.{ℕ, zero, suc, _+_, _-_}
+use Prim.Native.Nat.{ℕ, zero, suc, _+_, _*_, _-_}
 use mathlib.Core.Bool.{Bool, true, false, cond, _&&_}
 use mathlib.Core.List.{List, [], _∷_, _++_}
 use lib.Dec.{leb, ltb}
@@ -23,7 +23,7 @@ abbrev pub total : List ℕ → ℕ
 total [] = 0
 total (n ∷ ns) = n + total ns
 
--- The verdict words of all logs, one after the other.
+-- The verdict words of all logs, one after the other: two for each entry.
 abbrev pub wordsOf : Sheet → List (List ℕ) → List ℕ
 wordsOf S [] = []
 wordsOf S (log ∷ logs) = logWords S log ++ wordsOf S logs
@@ -42,9 +42,9 @@ firstLog pass k at (n ∷ ns) = elim (pass k at n) [ true ↦ firstLog pass (suc
 abbrev pub fits : (words k at n : ℕ) → Bool
 fits words k at n = ltb k listLimit && leb 1 n && leb n entryLimit && leb n (words - at)
 
--- Question 33 of a log of n entries: a verdict word for each, and a place for its count.
+-- Question 33 of a log of n entries: two verdict words for each, and a place for its count.
 abbrev pub hasRoom : (verdicts held k at n : ℕ) → Bool
-hasRoom verdicts held k at n = leb n (verdicts - at) && ltb k held
+hasRoom verdicts held k at n = leb (2 * n) (verdicts - 2 * at) && ltb k held
 
 -- Words left over are about the log after the last; 0 for none.
 abbrev pub leftOver : ℕ → List ℕ → ℕ
@@ -84,7 +84,7 @@ batchEnds a verdicts held = record { number = a .number; log = a .log; verdicts 
 
 -- The verdict buffer with the words of all logs in its first places; the rest is as lent.
 abbrev pub verdictsAfter : Sheet → (words lengths verdicts : List ℕ) → List ℕ
-verdictsAfter S words lengths verdicts = wordsOf S (logsOf words lengths) ++ drop (length words) verdicts
+verdictsAfter S words lengths verdicts = wordsOf S (logsOf words lengths) ++ drop (2 * length words) verdicts
 
 -- The counts' buffer likewise.
 abbrev pub heldAfter : Sheet → (words lengths held : List ℕ) → List ℕ

@@ -1,5 +1,5 @@
 -- What the theorems say of a list of logs: log j, when the list is accepted, and what each refusal means.
-use Prim.Native.Nat.{ℕ, suc, _≤_, _<_}
+use Prim.Native.Nat.{ℕ, suc, _*_, _≤_, _<_}
 use mathlib.Core.Path.{_≡_}
 use mathlib.Core.Bool.{Bool, true, false}
 use mathlib.Core.List.{List}
@@ -17,7 +17,7 @@ pub record Accepts (given : Bool) (words lengths verdicts held : List ℕ) : Typ
   pub logs : length lengths ≤ listLimit
   pub entries : (j : ℕ) → j < length lengths → (1 ≤ getD lengths j 0) × (getD lengths j 0 ≤ entryLimit)
   pub all-words : total lengths ≡ length words
-  pub verdicts-room : length words ≤ length verdicts
+  pub verdicts-room : 2 * length words ≤ length verdicts
   pub held-room : length lengths ≤ length held
 
 -- The log that j logs stand before gets this answer to a question; its words start after theirs.

@@ -23,8 +23,9 @@ pub struct BatchAnswer {
     pub log: usize,
 }
 
-// Judges logs whose words stand one after the other, log j's as many as `lengths[j]`: the verdict words likewise in the first
-// places of `verdicts`, each log's count held in those of `held`; the rest keep their content. A refusal alters nothing.
+// Judges logs whose words stand one after the other, log j's as many as `lengths[j]`: the verdict words likewise, two for each
+// entry, in the first places of `verdicts`, each log's count held in those of `held`; the rest keep their content. A refusal
+// alters nothing.
 pub fn judge_logs(
     table: Table,
     words: &[u32],

@@ -1,7 +1,7 @@
 // The questions of judging a list of logs, in document 01's order.
 use super::BatchAnswer;
 ghost use mathlib.Core.Path.{_≡_};
-ghost use Prim.Native.Nat.{_≤_};
+ghost use Prim.Native.Nat.{_*_, _^_, _≤_, _<_};
 ghost use lib.ListN.{length};
 ghost use Rattle.aldlf.specs.declared.Table.{Table};
 ghost use Rattle.packing.specs.Numbers.{places};
@@ -82,10 +82,10 @@ fn first_without_room(lengths: &[u16], verdicts: usize, held: usize) -> usize
     0
 }
 
-// Whether log k, of n entries from place `at` on, has its room.
+// Whether log k, of n entries from place `at` on, has its room: two verdict words for each entry.
 fn room_here(verdicts: usize, held: usize, k: usize, at: usize, n: usize) -> bool
-    requires { ⌜ at ≤ verdicts ⌝ }
+    requires { ⌜ (2 * at ≤ verdicts) × (n < 2 ^ 16) ⌝ }
     ensures { λ r. ⌜ r ≡ hasRoom verdicts held k at n ⌝ }
 {
-    (n <= verdicts - at) & (k < held)
+    (2 * n <= verdicts - 2 * at) & (k < held)
 }

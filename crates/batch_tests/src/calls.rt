@@ -7,6 +7,9 @@ ghost use Rattle.io.specs.Counts.{Counts};
 // One entry more than two logs may have.
 const WORDS: usize = 2 * aldlf::ENTRIES + 1;
 
+// One verdict word more than two logs may have.
+const VERDICTS: usize = 4 * aldlf::ENTRIES + 1;
+
 // No list of a case has more logs.
 const LOGS: usize = 4;
 
@@ -21,7 +24,7 @@ pub(crate) fn list(line: &[u8]) {
 
 // The same with its words and lengths.
 fn list_of(line: &[u8], words: &[u32], lengths: &[u16]) {
-    let mut verdicts = [170u64; WORDS];
+    let mut verdicts = [170u64; VERDICTS];
     let mut held = [999u16; LOGS];
     let v = verdict_room(line, &verdicts);
     let h = count_room(line, &held);

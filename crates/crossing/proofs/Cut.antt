@@ -13,7 +13,7 @@ use Rattle.aldlf.specs.declared.Automaton.{Automaton}
 use Rattle.aldlf.specs.declared.Edge.{Edge}
 use Rattle.aldlf.specs.declared.Used.{Used}
 use Rattle.aldlf.proofs.Bools.{and-left, and-right}
-use Rattle.packing.specs.Numbers.{places, edgeIn, lineIn, automatonIn}
+use Rattle.packing.specs.Numbers.{countsPlace, places, edgeIn, lineIn, automatonIn}
 use Rattle.packing.specs.Packed.{Packed, UsedPut}
 use Rattle.packing.proofs.PieceLaws.{edge-back, line-back, automaton-back}
 use Rattle.packing.proofs.PlaceLaws.{used-put}
@@ -40,7 +40,7 @@ automaton-low a b w f n z h r y (eh, lw) (er, lf, ln) (ey, ly) = rw (eh, er, ey)
 
 -- the counts at their places
 pub used-low : (n a e p q r : ℕ) (before : List ℕ) → length before ≡ places → Low n p → Low a q → (r ≡ e) × (r < 65536)
-    → UsedPut (usedCut (record { nodes = n; automata = a; edges = e })) before (set (set (set before 368 p) 369 q) 370 r)
+    → UsedPut (usedCut (record { nodes = n; automata = a; edges = e })) before (set (set (set before countsPlace p) (countsPlace + 1) q) (countsPlace + 2) r)
 used-low n a e p q r before size (ep, lp) (eq, lq) (er, lr) =
     rw (ep, eq, er) (used-put (usedCut (record { nodes = n; automata = a; edges = e })) before size (omega arith) (omega arith) (omega arith))
 

@@ -7,6 +7,7 @@ use mathlib.Core.List.{List}
 use native.Mathlib.Omega.{arith}
 use lib.ListN.{length}
 use borrow.Author.Tests.{lt-ltb}
+use Rattle.aldlf.specs.Constants.{nodeLimit}
 use Rattle.aldlf.specs.Sheet.{noLine, noEdge, noAutomaton}
 use Rattle.aldlf.specs.declared.NodeLine.{NodeLine}
 use Rattle.aldlf.specs.declared.Automaton.{Automaton}
@@ -26,7 +27,7 @@ use Rattle.crossing.proofs.Crossing.{crosses}
 line-small : (x : NodeLine) → x .kind < 256 → x .a < 256 → x .b < 256 → lineFits x ≡ true
 line-small x p q r = rw (lt-ltb (x .kind) 256 p, lt-ltb (x .a) 256 q, lt-ltb (x .b) 256 r)
 
-node-small : (ac i : ℕ) (ms : List Automaton) (x : NodeLine) → ac ≤ 16 → i < 64 → NodeOk ac ms i x → lineFits x ≡ true
+node-small : (ac i : ℕ) (ms : List Automaton) (x : NodeLine) → ac ≤ 16 → i < nodeLimit → NodeOk ac ms i x → lineFits x ≡ true
 node-small ac i ms x h l (okT e p q) = line-small x (omega arith) (omega arith) (omega arith)
 node-small ac i ms x h l (okF e p q) = line-small x (omega arith) (omega arith) (omega arith)
 node-small ac i ms x h l (okP e p q) = line-small x (omega arith) (omega arith) (omega arith)

@@ -10,7 +10,7 @@ use Rattle.aldlf.specs.Constants.{nodeLimit, automatonLimit, edgeLimit}
 use Rattle.aldlf.specs.Sheet.{noLine, noEdge, noAutomaton}
 use Rattle.aldlf.specs.declared.Automaton.{Automaton}
 use Rattle.aldlf.specs.declared.Edge.{Edge}
-use Rattle.packing.specs.Numbers.{places, edgeIn, lineIn, automatonIn}
+use Rattle.packing.specs.Numbers.{linesPlace, headsPlace, rangesPlace, beforePlace, countsPlace, places, edgeIn, lineIn, automatonIn}
 use Rattle.packing.specs.Packed.{Packed, Put, HeadPut, HeadsPut, UsedPut}
 use Rattle.packing.proofs.PlaceLaws.{put-none, put-next, heads-none, heads-next, all-packed}
 use Rattle.sheet.specs.Questions.{emptyTable}
@@ -159,14 +159,14 @@ zeros-packed before after size P =
       nodes-length = length-replicate nodeLimit noLine;
       automata-length = length-replicate automatonLimit noAutomaton;
       edges-length = length-replicate edgeLimit noEdge;
-      line-is = λ k h. ap lineIn (zero-at (256 + k) (omega arith)) ∙ sym (getD-replicate nodeLimit k noLine noLine h);
+      line-is = λ k h. ap lineIn (zero-at (linesPlace + k) (omega arith)) ∙ sym (getD-replicate nodeLimit k noLine noLine h);
       automaton-is = λ m h.
-          ap (λ (y : ℕ). automatonIn y (getD after (336 + m) 0) (getD after (352 + m) 0)) (zero-at (320 + m) (omega arith))
-          ∙ ap (λ (y : ℕ). automatonIn 0 y (getD after (352 + m) 0)) (zero-at (336 + m) (omega arith))
-          ∙ ap (λ (y : ℕ). automatonIn 0 0 y) (zero-at (352 + m) (omega arith))
+          ap (λ (y : ℕ). automatonIn y (getD after (rangesPlace + m) 0) (getD after (beforePlace + m) 0)) (zero-at (headsPlace + m) (omega arith))
+          ∙ ap (λ (y : ℕ). automatonIn 0 y (getD after (beforePlace + m) 0)) (zero-at (rangesPlace + m) (omega arith))
+          ∙ ap (λ (y : ℕ). automatonIn 0 0 y) (zero-at (beforePlace + m) (omega arith))
           ∙ sym (getD-replicate automatonLimit m noAutomaton noAutomaton h);
       edge-is = λ e h. ap edgeIn (zero-at e (omega arith)) ∙ sym (getD-replicate edgeLimit e noEdge noEdge h);
-      used-is = rw (zero-at 368 (omega arith), zero-at 369 (omega arith), zero-at 370 (omega arith));
+      used-is = rw (zero-at countsPlace (omega arith), zero-at (countsPlace + 1) (omega arith), zero-at (countsPlace + 2) (omega arith));
     }
   where
     zero-at : (i : ℕ) → i < places → getD after i 0 ≡ 0
@@ -175,7 +175,7 @@ zeros-packed before after size P =
 -- the fields that stand in the numbers, each kind at its places
 pub fields-packed : (xs first edges lines heads last : List ℕ) → length first ≡ places
     → Put (λ (e p : ℕ). edgeIn p ≡ getD (cutIn xs .edges) e noEdge) 0 edgeLimit first edges
-    → Put (λ (k p : ℕ). lineIn p ≡ getD (cutIn xs .nodes) k noLine) 256 nodeLimit edges lines
+    → Put (λ (k p : ℕ). lineIn p ≡ getD (cutIn xs .nodes) k noLine) linesPlace nodeLimit edges lines
     → HeadsPut (cutIn xs .automata) automatonLimit lines heads
     → UsedPut (cutIn xs .used) heads last
     → Packed (cutIn xs) last

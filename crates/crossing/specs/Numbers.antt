@@ -1,4 +1,4 @@
--- A table as it crosses the boundary: 1,315 numbers, and the table that numbers give; a row as 64 numbers.
+-- A table as it crosses the boundary: 1,507 numbers, and the table that numbers give; a row as 128 numbers.
 use Prim.Native.Nat.{ℕ, zero, suc, _+_, _*_}
 use mathlib.Core.Bool.{Bool, true, cond, _&&_}
 use mathlib.Core.List.{List, [], _∷_, _++_}
@@ -28,16 +28,16 @@ usedSize = 3
 
 -- where the automata, the edges and the counts start, and how many numbers a table takes
 abbrev pub automataPlace : ℕ
-automataPlace = 192
+automataPlace = lineSize * nodeLimit
 
 abbrev pub edgesPlace : ℕ
-edgesPlace = 288
+edgesPlace = automataPlace + automatonSize * automatonLimit
 
 abbrev pub usedPlace : ℕ
-usedPlace = 1312
+usedPlace = edgesPlace + edgeSize * edgeLimit
 
 abbrev pub tableSize : ℕ
-tableSize = 1315
+tableSize = usedPlace + usedSize
 
 -- the numbers of a node line, of an automaton, of an edge and of the counts, in the order of their fields
 abbrev pub lineNumbers : NodeLine → List ℕ
@@ -133,6 +133,6 @@ fieldsIn xs = record { nodes = linesIn xs; automata = automataIn xs; edges = edg
 unfoldable pub tableOf : List ℕ → Table
 tableOf xs = cond (eqb (length xs) tableSize && tableFits (fieldsIn xs)) (fieldsIn xs) emptyTable
 
--- the row that 64 numbers are
+-- the row that 128 numbers are
 abbrev pub rowOf : List ℕ → Row
 rowOf xs = record { bits = xs }

@@ -37,7 +37,7 @@ cutIn xs =
 
 -- how many bytes the edges take
 abbrev pub edgeBytes : ℕ
-edgeBytes = 1024
+edgeBytes = edgeSize * edgeLimit
 
 -- the bytes are those of the edges, cut, one edge after the other
 pub record EdgesCut (xs bytes : List ℕ) : Type 0 where

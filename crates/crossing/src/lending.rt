@@ -18,13 +18,13 @@ ghost use lib.ListN.{length, getD};
 ghost use Rattle.aldlf.specs.Constants.{nodeLimit, automatonLimit, edgeLimit};
 ghost use Rattle.aldlf.specs.Sheet.{noLine, noEdge};
 ghost use Rattle.sheet.specs.Questions.{emptyTable};
-ghost use Rattle.packing.specs.Numbers.{places, edgeIn, lineIn};
+ghost use Rattle.packing.specs.Numbers.{linesPlace, places, edgeIn, lineIn};
 ghost use Rattle.packing.specs.Packed.{Packed, Put, HeadPut, HeadsPut, UsedPut};
 ghost use Rattle.crossing.specs.Numbers.{lineSize, automatonSize, edgeSize, usedPlace, tableSize, lineAt, automatonAt, edgeAt, usedAt, linesIn, automataIn, edgesIn, lineFits, automatonFits, edgeFits, usedFits, allOf, fieldsIn, tableFits, tableOf};
 ghost use Rattle.crossing.specs.Steps.{edgeBytes, lineCut, automatonCut, cutIn, EdgesCut};
 
 // How many bytes the edges take.
-const EDGE_BYTES: usize = 1024;
+const EDGE_BYTES: usize = EDGE * aldlf::EDGES;
 
 // The table that the numbers give, as lent numbers; all zeros where they are not as many as a table's, or one is too large for its field.
 pub fn lend_table(xs: &[u16], numbers: &mut [u32])
@@ -103,7 +103,7 @@ fn put_edges(bytes: &[u8], numbers: &mut [u32])
 
 fn lend_lines(xs: &[u16], numbers: &mut [u32]) -> bool
     requires { ⌜ (length (now xs) ≡ tableSize) × (length (now numbers) ≡ places) ⌝ }
-    ensures { λ r. ⌜ (r ≡ allOf lineFits (linesIn (now (xs .entry)))) × Put (λ (k p : ℕ). lineIn p ≡ getD (cutIn (now (xs .entry)) .nodes) k noLine) 256 nodeLimit (now (numbers .entry)) (now (numbers .exit)) ⌝ }
+    ensures { λ r. ⌜ (r ≡ allOf lineFits (linesIn (now (xs .entry)))) × Put (λ (k p : ℕ). lineIn p ≡ getD (cutIn (now (xs .entry)) .nodes) k noLine) linesPlace nodeLimit (now (numbers .entry)) (now (numbers .exit)) ⌝ }
 {
     let mut fit = true;
     let mut k: usize = 0;

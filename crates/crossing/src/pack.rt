@@ -17,13 +17,13 @@ pub const AUTOMATON: usize = 6;
 
 pub const EDGE: usize = 4;
 
-pub const AUTOMATA_PLACE: usize = 192;
+pub const AUTOMATA_PLACE: usize = LINE * aldlf::NODES;
 
-pub const EDGES_PLACE: usize = 288;
+pub const EDGES_PLACE: usize = AUTOMATA_PLACE + AUTOMATON * aldlf::AUTOMATA;
 
-pub const USED_PLACE: usize = 1312;
+pub const USED_PLACE: usize = EDGES_PLACE + EDGE * aldlf::EDGES;
 
-pub const TABLE: usize = 1315;
+pub const TABLE: usize = USED_PLACE + 3;
 
 // The numbers of a table, which take the whole slice.
 pub fn put_table(t: Table, out: &mut [u16])

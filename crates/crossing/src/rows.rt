@@ -1,11 +1,11 @@
-// A row as 64 numbers, and back.
+// A row as 128 numbers, and back.
 use aldlf::Row;
 ghost use mathlib.Core.Path.{_≡_};
 ghost use lib.ListN.{length};
 ghost use Rattle.aldlf.specs.Constants.{nodeLimit};
 ghost use Rattle.crossing.specs.Numbers.{rowOf};
 
-// The row that 64 numbers are.
+// The row that 128 numbers are.
 pub fn row_of(xs: &[u16]) -> Row
     requires { ⌜ length (now xs) ≡ nodeLimit ⌝ }
     ensures { λ r. ⌜ r ≡ rowOf (now (xs .entry)) ⌝ }

@@ -67,7 +67,7 @@ module _ (S : Sheet) (log buffer : List ℕ) where
           near few y (inl l) = let same : i ≡ min i 65535 = omega arith in ap (λ (x : ℕ). walkOutcome true S log k x buffer) same
           near few y (inr l) = no-entry k i (min i 65535) y l (omega arith)
 
--- a given table has at most 64 nodes
+-- a given table has at most 128 nodes
 few-nodes : (t : Table) → wellFormed t ≡ true → sheetOf t .nodes ≤ nodeLimit
 unfolding sheetOf
 few-nodes t w = wf-yes t w .grown .nodes≤

@@ -1,5 +1,5 @@
 -- DEMAND 3 through the boundary: a run of `rozsvelen_judge_part` calls, which change the lent row in place, is call by call a run of part judgings, so it stands right wherever it stands.
-use Prim.Native.Nat.{ℕ, zero, suc}
+use Prim.Native.Nat.{ℕ, zero, suc, _*_}
 use mathlib.Core.Path.{_≡_, refl, ap, sym, subst, _∙_}
 use mathlib.Core.Logic.{_⊎_, inl, inr}
 use mathlib.Core.Bool.{Bool, true, false, cond}
@@ -43,7 +43,7 @@ joined-same way st c (suc q) row buffer = rw (refusal-apart q, eqb·suc-zero q)
 refused-same : (way : ℕ) (st : Stand) (c : Call) (q : ℕ) → afterPart way st c (partEnds (refusal (suc q)) (st .row .bits) (c .buffer)) ≡ st
 refused-same way st c q = rw (refusal-apart q)
 
--- the row in hand always has 64 numbers
+-- the row in hand always has 128 numbers
 abbrev settled : ℕ → Row → (after buffer : List ℕ) → Part
 settled number row after buffer = elim number [ zero ↦ record { number = 0; row = row; buffer = after } | suc q ↦ record { number = suc q; row = noRow; buffer = buffer } ]
 
@@ -54,7 +54,7 @@ settled-long (suc q) row after buffer h = refl
 part-long : (given : Bool) (w : Way) (S : Sheet) (row : Row) (words buffer : List ℕ) → length (partOutcome given w S row words buffer .row .bits) ≡ nodeLimit
 unfolding partOutcome
 part-long given w S row words buffer =
-    settled-long (partNumber given w S words buffer) (packRow (partRow w (ruleSheet S) words (bitsOf row))) (partWords (ruleSheet S) (bitsOf row) words ++ drop (length words) buffer) buffer refl
+    settled-long (partNumber given w S words buffer) (packRow (partRow w (ruleSheet S) words (bitsOf row))) (partWords (ruleSheet S) (bitsOf row) words ++ drop (2 * length words) buffer) buffer refl
 
 stays-long : (w : Way) (st : Stand) (c : Call) (number : ℕ) (row : Row) (buffer : List ℕ) → length (st .row .bits) ≡ nodeLimit → length (row .bits) ≡ nodeLimit
     → length (afterCall w st c (record { number = number; row = row; buffer = buffer }) .row .bits) ≡ nodeLimit
@@ -62,7 +62,7 @@ stays-long w st c zero row buffer h i = i
 stays-long w st c (suc q) row buffer h i = h
 
 module _ (table : List ℕ) (way : ℕ) where
-  -- a way, and a row of 64 numbers: every call is a part judging
+  -- a way, and a row of 128 numbers: every call is a part judging
   module _ (known : isWay way ≡ true) where
     judged-is : (row words verdicts : List ℕ) → length row ≡ nodeLimit
         → judgePartOutcome table way row words verdicts ≡ partJudged row (partOutcome (wellFormed (tableOf table)) (wayOf way) (sheetOf (tableOf table)) (rowOf row) words verdicts)

@@ -1,5 +1,5 @@
 -- Runs of `rozsvelen_judge_part`: one table, one way and one lent row, which every call may change in place.
-use Prim.Native.Nat.{ℕ}
+use Prim.Native.Nat.{ℕ, _*_}
 use mathlib.Core.Bool.{true, false, cond}
 use mathlib.Core.List.{List, [], _∷_}
 use lib.Dec.{eqb}
@@ -14,7 +14,7 @@ use Rattle.exports.specs.Judging.{wayOf, PartOutcome, judgePartOutcome}
 abbrev pub afterPart : ℕ → Stand → Call → PartOutcome → Stand
 afterPart way st c a =
     cond (eqb (a .answer) (accepted 0))
-    (record { row = rowOf (a .row); answered = true; joined = join (wayOf way) (c .words) (st .joined); verdicts = join (wayOf way) (take (length (c .words)) (a .verdicts)) (st .verdicts) })
+    (record { row = rowOf (a .row); answered = true; joined = join (wayOf way) (c .words) (st .joined); verdicts = join (wayOf way) (take (2 * length (c .words)) (a .verdicts)) (st .verdicts) })
     (record { row = rowOf (a .row); answered = st .answered; joined = st .joined; verdicts = st .verdicts })
 
 -- The calls of a run in order, each lent the row as the one before left it.

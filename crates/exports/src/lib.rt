@@ -1,5 +1,5 @@
 // The calls for C and Rust: numbers and slices. Each answers one number (specs/Answers.antt, `answerCode`; a list of logs:
-// specs/Lists.antt, `listCode`); a table crosses as 1,315 numbers and a row as 64 (crossing's specs/Numbers.antt).
+// specs/Lists.antt, `listCode`); a table crosses as 1,507 numbers and a row as 128 (crossing's specs/Numbers.antt).
 mod answer;
 
 use aldlf::Entry;

@@ -2,10 +2,11 @@
 use Prim.Native.Nat.{ℕ, _+_, _*_, _/_, _%_, _≤_, _<_}
 use native.Mathlib.Omega.{arith}
 use mathlib.Core.Path.{_≡_, ap, sym, subst, _∙_}
-use mathlib.Core.Logic.{_⊎_, ⊎-elim}
+use mathlib.Core.Logic.{⊎-elim}
 use mathlib.Core.List.{List}
 use lib.ListN.{getD, length, set, length-set}
 use lib.Seq.{getD-set-same, getD-set-other}
+use Rattle.aldlf.specs.Constants.{nodeLimit}
 use Rattle.aldlf.specs.Sheet.{noEdge}
 use Rattle.aldlf.specs.declared.Edge.{Edge}
 use Rattle.packing.specs.Numbers.{packedOf}
@@ -16,7 +17,7 @@ use Rattle.graph.proofs.Chains.{chain-none, chain-more}
 use Rattle.graph.proofs.Cases.{same?}
 
 -- the fields of an arc, one by one
-module _ (from to dir test into out : ℕ) (a : from < 16) (b : to < 16) (d : dir ≤ 2) (n : test < 64) (i : into < 65536) (o : out < 65536) where
+module _ (from to dir test into out : ℕ) (a : from < 16) (b : to < 16) (d : dir ≤ 2) (n : test < nodeLimit) (i : into < 65536) (o : out < 65536) where
   abbrev number : ℕ
   number = from + 256 * dir + 65536 * test + 16777216 * to + 4294967296 * into + 281474976710656 * out
 

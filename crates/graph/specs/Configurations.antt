@@ -58,7 +58,7 @@ pub record EdgeFits (states : ℕ) (e : Edge) : Type 0 where
   pub test-fits : e .test .0 < nodeLimit
   pub dir-fits : e .dir ≤ 2
 
--- What the search needs of the chained edges, the automaton and the verdict words.
+-- What the search needs of the chained edges, the automaton and the entries' numbers.
 pub record Ready (arcs : List ℕ) (q : Automaton) (words : List ℕ) : Type 0 where
   pub some-state : 0 < q .states
   pub few-states : q .states ≤ stateLimit

@@ -6,6 +6,7 @@ ghost use mathlib.Core.Path.{_≡_};
 ghost use Prim.Native.Nat.{_/_, _%_, _≤_, _<_};
 ghost use lib.ListN.{length};
 ghost use Rattle.aldlf.specs.Constants.{nodeLimit, stateLimit, entryLimit};
+ghost use Rattle.reach.specs.Marks.{paired};
 ghost use Rattle.graph.specs.Graph.{far};
 ghost use Rattle.graph.specs.Configurations.{entryBefore, priorOf, turnedOf, arrivalOf, reciprocalOf, EdgeFits};
 
@@ -58,15 +59,15 @@ fn entry_before(dir: u8, j: u16, n: u16) -> u16
 // The configuration from which e leads to its state at entry j, or FAR.
 pub fn prior(words: &[u64], e: Edge, states: u8, j: Entry) -> u16
     requires { ⌜ EdgeFits states e ⌝ }
-    requires { ⌜ (states ≤ stateLimit) × (length (now words) ≤ entryLimit) × (j .0 < length (now words)) ⌝ }
-    ensures { λ r. ⌜ r ≡ priorOf (now (words .entry)) e states (e .to .0) (j .0) ⌝ }
+    requires { ⌜ (states ≤ stateLimit) × (length (paired (now words)) ≤ entryLimit) × (j .0 < length (paired (now words))) ⌝ }
+    ensures { λ r. ⌜ r ≡ priorOf (paired (now (words .entry))) e states (e .to .0) (j .0) ⌝ }
 {
-    let i = entry_before(e.dir, j.0, words.len() as u16);
+    let i = entry_before(e.dir, j.0, (words.len() / 2) as u16);
     if i == FAR {
         return FAR;
     }
     let test = e.test;
-    if !reach::verdict(words[i as usize], test) {
+    if !reach::verdict(words, i as usize, test) {
         return FAR;
     }
     i * (states as u16) + (e.from.0 as u16)
@@ -85,13 +86,13 @@ fn turned(dir: u8) -> u8
 
 // The entry at which e arrives from entry i, or FAR.
 pub fn arrival(words: &[u64], e: Edge, i: Entry) -> u16
-    requires { ⌜ (e .test .0 < nodeLimit) × (e .dir ≤ 2) × (length (now words) ≤ entryLimit) × (i .0 < length (now words)) ⌝ }
-    ensures { λ r. ⌜ (r ≡ arrivalOf (now (words .entry)) e (i .0)) × ((r ≡ far → ⊥) → r < length (now (words .entry))) ⌝ }
+    requires { ⌜ (e .test .0 < nodeLimit) × (e .dir ≤ 2) × (length (paired (now words)) ≤ entryLimit) × (i .0 < length (paired (now words))) ⌝ }
+    ensures { λ r. ⌜ (r ≡ arrivalOf (paired (now (words .entry))) e (i .0)) × ((r ≡ far → ⊥) → r < length (paired (now (words .entry)))) ⌝ }
 {
     let test = e.test;
-    if !reach::verdict(words[i.0 as usize], test) {
+    if !reach::verdict(words, i.0 as usize, test) {
         return FAR;
     }
     let dir = turned(e.dir);
-    entry_before(dir, i.0, words.len() as u16)
+    entry_before(dir, i.0, (words.len() / 2) as u16)
 }

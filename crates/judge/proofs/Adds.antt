@@ -1,4 +1,4 @@
--- A verdict added to each word, one entry after the other, and counted; arrays filled place by place.
+-- A verdict added to each entry's number, one entry after the other, and counted; arrays filled place by place.
 use Prim.Native.Nat.{ℕ, zero, suc, _+_, _*_, _^_, _≤_, _<_}
 use native.Mathlib.Omega.{arith}
 use native.Mathlib.Numerals.{add-one}
@@ -7,16 +7,16 @@ use mathlib.Core.Logic.{_⊎_, inl, inr}
 use mathlib.Core.Bool.{Bool, true, false}
 use mathlib.Core.List.{List, _++_}
 use lib.Dec.{eqb, ltb}
-use lib.ListN.{getD, length, set, length-set, take, drop, replicate, length-append, length-take}
-use lib.Seq.{ext-getD, getD-set-same, getD-set-other, length-take-le, drop-cons, set-at, append-snoc, take-suc, take-at}
+use lib.ListN.{getD, length, set, length-set, take, drop, replicate, length-append, length-take, List·getD-eq-default}
+use lib.Seq.{ext-getD, getD-set-same, getD-set-other, getD-take, length-take-le, drop-cons, set-at, append-snoc, take-suc, take-at}
 use borrow.Author.Tests.{eqb-true, eqb-false, ltb-true, ltb-false}
 use Rattle.aldlf.specs.Constants.{nodeLimit}
 use Rattle.aldlf.specs.Sheet.{bit}
-use Rattle.aldlf.specs.Outcomes.{one, packBits, bitCount, tabulate}
-use Rattle.aldlf.proofs.Bools.{bool-cases, count-cong}
+use Rattle.aldlf.specs.Outcomes.{one, packBits, tabulate}
+use Rattle.aldlf.proofs.Bools.{bool-cases, lt-or-le, count-cong}
 use Rattle.aldlf.proofs.Packing.{length-tabulate, getD-tabulate, bit-top}
 use Rattle.reach.specs.Marks.{at, verdictAdded}
-use Rattle.judge.specs.Nodes.{Added, Filled}
+use Rattle.judge.specs.Nodes.{setIn, Added, Filled}
 
 pub added-none : (k : ℕ) (f : ℕ → Bool) (l : List ℕ) → Added k f 0 l l 0
 added-none k f l = record { counted = refl; same = refl; done = λ i h. absurd (omega arith); rest = λ i h. refl }
@@ -32,7 +32,7 @@ pub added-turn : (k : ℕ) (F : ℕ → ℕ → Bool) (n : ℕ) (before after : 
 added-turn k F n before after on v held held2 a l low o e c =
     record {
       counted = c ∙ ap₂ (λ (b : Bool) (x : ℕ). one b + x) (sym set-here) (a .counted ∙ count-cong n (λ i. bit (at after i) k) (λ i. bit (at (set after n v) i) k) set-there)
-          ∙ ap (λ (m : ℕ). bitCount m (set after n v) k) (sym (add-one n));
+          ∙ ap (λ (m : ℕ). setIn m (set after n v) k) (sym (add-one n));
       same = length-set after n v ∙ a .same;
       done = λ i h. now-at i h (bool-cases (eqb i n));
       rest = λ i h. getD-set-other after n i v 0 (omega arith) ∙ a .rest i (omega arith);
@@ -69,6 +69,13 @@ zeros-at zero j = refl
 zeros-at (suc n) zero = refl
 zeros-at (suc n) (suc j) = zeros-at n j
 
+pub take-zeros : (n : ℕ) (l : List ℕ) → ((i : ℕ) → at l i ≡ 0) → (i : ℕ) → at (take n l) i ≡ 0
+take-zeros n l z i = go (lt-or-le i n)
+  where
+    go : (i < n) ⊎ (n ≤ i) → at (take n l) i ≡ 0
+    go (inl h) = getD-take n l i 0 h ∙ z i
+    go (inr h) = List·getD-eq-default (take n l) 0 (omega (arith, length-take n l))
+
 -- the first places of l after they were lent and came back as w
 pub lent-back : (n : ℕ) (w l : List ℕ) → length w ≡ n → take n (w ++ drop n l) ≡ w
 lent-back n w l e = take-at w (drop n l) n e
@@ -85,7 +92,7 @@ take-fits k l m h = omega (arith, length-take k l)
 pub lent-put : (n : ℕ) (w l buffer : List ℕ) → length w ≡ n → take n (w ++ drop n l) ++ drop (length (take n (w ++ drop n l))) buffer ≡ w ++ drop n buffer
 lent-put n w l buffer e = ap (λ (l : List ℕ). l ++ drop (length l) buffer) (lent-back n w l e) ∙ ap (λ (k : ℕ). w ++ drop k buffer) e
 
--- Arrays of 64 ------------------------------------------------------------------------------------------------------------------
+-- Rows ---------------------------------------------------------------------------------------------------------------------------
 
 module _ (f : ℕ → ℕ) where
   pub filled-start : Filled f (replicate nodeLimit 0) 0

@@ -6,11 +6,11 @@ use mathlib.Core.Bool.{Bool, true, false, not, _&&_, _||_}
 use mathlib.Core.List.{List, _++_}
 use lib.Dec.{eqb}
 use lib.ListN.{getD, length, take, drop}
-use Rattle.aldlf.specs.Constants.{nodeLimit, automatonLimit, stateLimit, letterP, letterN, letterA, letterO, letterD, letterB}
+use Rattle.aldlf.specs.Constants.{nodeLimit, wordBits, automatonLimit, stateLimit, letterP, letterN, letterA, letterO, letterD, letterB}
 use Rattle.aldlf.specs.Sheet.{Sheet, Line, T, F, P, N, A, O, D, B, bit, sheetOf}
 use Rattle.aldlf.specs.Parts.{Bits, rowEntry, counts}
 use Rattle.aldlf.specs.Verdict.{facing, judge, rowOf, plain}
-use Rattle.aldlf.specs.Outcomes.{packBits, bitCount, bitsOf, packRow, partWords}
+use Rattle.aldlf.specs.Outcomes.{countBelow, packBits, bitCount, bitsOf, packRow, partWords}
 use Rattle.aldlf.specs.declared.Table.{Table}
 use Rattle.aldlf.specs.declared.Row.{Row}
 use Rattle.aldlf.specs.declared.NodeLine.{NodeLine}
@@ -19,7 +19,7 @@ use Rattle.aldlf.specs.declared.Way.{Way}
 use Rattle.aldlf.specs.declared.Way.the-variants.{Ahead, Back}
 use Rattle.stands.specs.declared.lent.Looks.{Looks}
 use Rattle.sheet.specs.Facts.{nodeAt, automatonAt, Lent}
-use Rattle.reach.specs.Marks.{at, pick, verdictIn, verdictAdded, Reaching}
+use Rattle.reach.specs.Marks.{at, pick, paired, verdictAdded, Reaching}
 use Rattle.reach.specs.Columns as steps
 use Rattle.judge.specs.declared.core.Part.{Part}
 use Rattle.judge.specs.declared.core.CoreAnswer.{CoreAnswer}
@@ -31,21 +31,21 @@ use Rattle.judge.specs.declared.nodes.NodeAnswer.{NodeAnswer}
 abbrev pub modalKind : ℕ → Bool
 modalKind kind = eqb kind letterD || eqb kind letterB
 
--- A line that is no D or B, at the entry with these facts and this word of the nodes before the line.
+-- A line that is no D or B, at the entry with these facts and this number of the nodes before the line.
 abbrev pub saysNow : Line → (facts word : ℕ) → Bool
 saysNow T facts word = true
 saysNow F facts word = false
 saysNow (P f) facts word = bit facts f
-saysNow (N a) facts word = not (verdictIn word a)
-saysNow (A a b) facts word = verdictIn word a && verdictIn word b
-saysNow (O a b) facts word = verdictIn word a || verdictIn word b
+saysNow (N a) facts word = not (bit word a)
+saysNow (A a b) facts word = bit word a && bit word b
+saysNow (O a b) facts word = bit word a || bit word b
 saysNow (D m a) facts word = false
 saysNow (B m a) facts word = false
 
 -- What reading a line that is no D or B asks of its numbers.
 pub record PlainFits (l : NodeLine) : Type 0 where
   pub plain : modalKind (l .kind) ≡ false
-  pub fact : l .kind ≡ letterP → l .a < 64
+  pub fact : l .kind ≡ letterP → l .a < wordBits
   pub one-node : l .kind ≡ letterN → l .a < nodeLimit
   pub two-nodes : (l .kind ≡ letterA) ⊎ (l .kind ≡ letterO) → (l .a < nodeLimit) × (l .b < nodeLimit)
 
@@ -61,9 +61,13 @@ rowNumber j want M = pick (eqb (length M) 0) (j .given) (facingMask (at M (rowEn
 abbrev pub plainNumber : NodeLine → (states : ℕ) → ℕ
 plainNumber l states = pick (eqb (l .kind) letterB) (65535 % 2 ^ states) 0
 
--- Verdicts on node k were added to the first n words, as f says; `held` is in how many of these words its bit is set.
+-- In how many of the first n numbers bit k is set.
+abbrev pub setIn : (n : ℕ) → List ℕ → (k : ℕ) → ℕ
+setIn n numbers k = countBelow n (λ i. bit (at numbers i) k)
+
+-- Verdicts on node k were added to the numbers of the first n entries, as f says; `held` is in how many of them its bit is set.
 pub record Added (k : ℕ) (f : ℕ → Bool) (n : ℕ) (before after : List ℕ) (held : ℕ) : Type 0 where
-  pub counted : held ≡ bitCount n after k
+  pub counted : held ≡ setIn n after k
   pub same : length after ≡ length before
   pub done : (i : ℕ) → i < n → at after i ≡ verdictAdded (at before i) k (f i)
   pub rest : (i : ℕ) → n ≤ i → at after i ≡ at before i
@@ -86,12 +90,12 @@ pub record ModalDone (E : List ℕ) (j : Job) (before after : List ℕ) (r : Nod
   pub added : Added (j .number .0) (λ i. facing (eqb (j .line .kind) letterD) (bit (at masks i) (j .automaton .start .0))) (length before) before after (r .held)
   pub number : r .number ≡ rowNumber j (eqb (j .line .kind) letterD) masks
 
--- The words of the nodes below k.
+-- The entries' numbers of the nodes below k.
 pub record Words (S : Sheet) (ρ : Bits) (log : List ℕ) (k : ℕ) (words : List ℕ) : Type 0 where
   pub size : length words ≡ length log
   pub each : (i : ℕ) → i < length log → at words i ≡ packBits k (λ j. judge S log ρ (suc j) j i)
 
--- The numbers f 0, f 1, .. stand in the first k places of an array of 64, and 0 in the others.
+-- The numbers f 0, f 1, .. stand in the first k places of an array of as many numbers as a row has, and 0 in the others.
 pub record Filled (f : ℕ → ℕ) (out : List ℕ) (k : ℕ) : Type 0 where
   pub size : length out ≡ nodeLimit
   pub done : (j : ℕ) → j < k → getD out j 0 ≡ f j
@@ -106,9 +110,9 @@ pub record Known (t : Table) (row : Row) (j : Job) (log edges words : List ℕ) 
   pub given-is : j .given ≡ getD (row .bits) (j .number .0) 0
   pub words-are : Words (sheetOf t) (bitsOf row) log (j .number .0) words
 
--- A node is judged; the count is that of its own bits in the words.
+-- A node is judged; the count is that of its own bits in the entries' numbers.
 pub record NodeDone (t : Table) (row : Row) (j : Job) (log words : List ℕ) (r : NodeAnswer) : Type 0 where
-  pub held-is : r .held ≡ bitCount (length log) words (j .number .0)
+  pub held-is : r .held ≡ setIn (length log) words (j .number .0)
   pub words-are : Words (sheetOf t) (bitsOf row) log (j .number .0 + 1) words
   pub row-is : r .number ≡ packBits stateLimit (λ s. rowOf (j .way) (sheetOf t) log (bitsOf row) (j .number .0) s)
 
@@ -144,14 +148,14 @@ pub record CoreDone (t : Table) (p : Part) (log words : List ℕ) (r : CoreAnswe
 pub record Through (t : Table) (p : Part) (log numbers words steps out : List ℕ) (held : ℕ) (have : Have) (k : ℕ) : Type 0 where
   pub words-are : Words (sheetOf t) (bitsOf (p .row)) log k words
   pub row-is : Filled (λ j. packBits stateLimit (λ s. rowOf (p .way) (sheetOf t) log (bitsOf (p .row)) j s)) out k
-  pub held-is : 1 ≤ k → held ≡ bitCount (length log) words (k - 1)
+  pub held-is : 1 ≤ k → held ≡ setIn (length log) words (k - 1)
   pub kept : Kept t numbers words k have steps
 
 -- The same, with the words in the first places of a buffer and the rest of it kept.
 pub record CorePut (t : Table) (p : Part) (log before after : List ℕ) (r : CoreAnswer) : Type 0 where
   pub words : List ℕ
   pub done : CoreDone t p log words r
-  pub put : after ≡ words ++ drop (length log) before
+  pub put : after ≡ words ++ drop (2 * length log) before
 
 -- The row is plain on every bit that a row of the sheet has: whole logs are judged with such a row.
 abbrev pub AllPlain : Sheet → Row → Type 0

@@ -37,7 +37,7 @@ pub(crate) struct CoreAnswer {
     pub(crate) held: usize,
 }
 
-// The verdict words of a log or a part, in the first places of `verdicts`, the row that it gives and the count held. The table is lent as numbers: no
+// The verdict words of a log or a part, two for each entry, in the first places of `verdicts`, the row that it gives and the count held. The table is lent as numbers: no
 // step copies it. Scratch is small where the log is, so that a short log pays for no large one.
 pub(crate) fn judge_core(
     part: Part,
@@ -46,11 +46,11 @@ pub(crate) fn judge_core(
     verdicts: &mut [u64],
 ) -> CoreAnswer
     requires { ⌜ ((t : Table) × Lent t (now numbers)) ⌝ }
-    requires { ⌜ (length (now log) ≤ length (now verdicts)) × (length (now log) ≤ entryLimit) ⌝ }
+    requires { ⌜ (2 * length (now log) ≤ length (now verdicts)) × (length (now log) ≤ entryLimit) ⌝ }
     ensures { λ r. ⌜ ((t : Table) → Lent t (now (numbers .entry)) → CorePut t part (now (log .entry)) (now (verdicts .entry)) (now (verdicts .exit)) r) ⌝ }
 {
     if log.len() <= FEW {
-        let mut words = [0u64; FEW];
+        let mut words = [0u64; 2 * FEW];
         let mut steps = [0u16; 49 * FEW];
         let mut masks = [0u16; FEW];
         return judge_in(
@@ -63,7 +63,7 @@ pub(crate) fn judge_core(
             &mut masks,
         );
     }
-    let mut words = [0u64; aldlf::ENTRIES];
+    let mut words = [0u64; 2 * aldlf::ENTRIES];
     let mut steps = [0u16; 49 * aldlf::ENTRIES];
     let mut masks = [0u16; aldlf::ENTRIES];
     judge_in(
@@ -88,9 +88,9 @@ fn judge_in(
     masks: &mut [u16],
 ) -> CoreAnswer
     requires { ⌜ ((t : Table) × Lent t (now numbers)) ⌝ }
-    requires { ⌜ (length (now log) ≤ length (now verdicts)) × (length (now log) ≤ entryLimit) ⌝ }
-    requires { ⌜ (length (now log) ≤ length (now words)) × (49 * length (now log) ≤ length (now steps)) × (length (now log) ≤ length (now masks)) ⌝ }
-    requires { ⌜ ((i : ℕ) → i < length (now log) → at (now words) i ≡ 0) ⌝ }
+    requires { ⌜ (2 * length (now log) ≤ length (now verdicts)) × (length (now log) ≤ entryLimit) ⌝ }
+    requires { ⌜ (2 * length (now log) ≤ length (now words)) × (49 * length (now log) ≤ length (now steps)) × (length (now log) ≤ length (now masks)) ⌝ }
+    requires { ⌜ ((i : ℕ) → at (now words) i ≡ 0) ⌝ }
     ensures { λ r. ⌜ ((t : Table) → Lent t (now (numbers .entry)) → CorePut t part (now (log .entry)) (now (verdicts .entry)) (now (verdicts .exit)) r) ⌝ }
 {
     let n = log.len();
@@ -98,11 +98,11 @@ fn judge_in(
         part,
         numbers,
         log,
-        &mut words[..n],
+        &mut words[..2 * n],
         &mut steps[..49 * n],
         &mut masks[..n],
     );
-    put_words(&words[..n], verdicts);
+    put_words(&words[..2 * n], verdicts);
     a
 }
 
@@ -116,8 +116,8 @@ fn judge_nodes(
     masks: &mut [u16],
 ) -> CoreAnswer
     requires { ⌜ ((t : Table) × Lent t (now numbers)) ⌝ }
-    requires { ⌜ (length (now words) ≡ length (now log)) × (length (now steps) ≡ 49 * length (now log)) × (length (now masks) ≡ length (now log)) × (length (now log) ≤ entryLimit) ⌝ }
-    requires { ⌜ ((i : ℕ) → i < length (now log) → at (now words) i ≡ 0) ⌝ }
+    requires { ⌜ (length (now words) ≡ 2 * length (now log)) × (length (now steps) ≡ 49 * length (now log)) × (length (now masks) ≡ length (now log)) × (length (now log) ≤ entryLimit) ⌝ }
+    requires { ⌜ ((i : ℕ) → at (now words) i ≡ 0) ⌝ }
     ensures { λ r. ⌜ ((t : Table) → Lent t (now (numbers .entry)) → CoreDone t part (now (log .entry)) (now (words .exit)) r) ⌝ }
 {
     let mut out = [0u16; aldlf::NODES];

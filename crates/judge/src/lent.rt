@@ -14,7 +14,7 @@ use stands::lent::rule_numbers;
 use stands::lent::rule_ways;
 ghost use mathlib.Core.Path.{_≡_};
 ghost use mathlib.Core.List.{_++_};
-ghost use Prim.Native.Nat.{_≤_};
+ghost use Prim.Native.Nat.{_*_, _≤_};
 ghost use lib.Dec.{eqb};
 ghost use lib.ListN.{length, drop};
 ghost use Rattle.aldlf.specs.Constants.{entryLimit};
@@ -113,10 +113,10 @@ pub fn plain_of(numbers: &[u32]) -> Row
 // A whole log: its verdict words in the first places of `verdicts`, the rest as lent, and the count of entries at which the rule holds.
 pub fn judge_log(plain: Row, numbers: &[u32], log: &[u32], verdicts: &mut [u64]) -> usize
     requires { ⌜ ((t : Table) × Prepared t plain (now numbers)) ⌝ }
-    requires { ⌜ (length (now log) ≤ length (now verdicts)) × (length (now log) ≤ entryLimit) ⌝ }
+    requires { ⌜ (2 * length (now log) ≤ length (now verdicts)) × (length (now log) ≤ entryLimit) ⌝ }
     ensures { λ r. ⌜ ((t : Table) → Prepared t plain (now (numbers .entry)) → r ≡ heldIn (sheetOf t) (now (log .entry))) ⌝ }
     ensures { λ _. ⌜ ((t : Table) → Prepared t plain (now (numbers .entry))
-        → now (verdicts .exit) ≡ logWords (sheetOf t) (now (log .entry)) ++ drop (length (now (log .entry))) (now (verdicts .entry))) ⌝ }
+        → now (verdicts .exit) ≡ logWords (sheetOf t) (now (log .entry)) ++ drop (2 * length (now (log .entry))) (now (verdicts .entry))) ⌝ }
 {
     let part = Part {
         way: Way::Ahead,

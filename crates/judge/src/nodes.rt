@@ -13,13 +13,13 @@ ghost use mathlib.Core.Bool.{true};
 ghost use mathlib.Core.List.{List};
 ghost use Prim.Native.Nat.{ℕ, _+_, _*_, _^_, _≤_, _<_};
 ghost use lib.ListN.{length};
-ghost use Rattle.aldlf.specs.Constants.{nodeLimit, entryLimit};
+ghost use Rattle.aldlf.specs.Constants.{nodeLimit, entryLimit, wordBits};
 ghost use Rattle.aldlf.specs.Sheet.{lineOf, «bit» as bitOf};
 ghost use Rattle.aldlf.specs.Verdict.{facing};
 ghost use Rattle.aldlf.specs.Outcomes.{one};
 ghost use Rattle.aldlf.specs.declared.Table.{Table};
 ghost use Rattle.aldlf.specs.declared.Row.{Row};
-ghost use Rattle.reach.specs.Marks.{at, EdgesFit};
+ghost use Rattle.reach.specs.Marks.{at, paired, EdgesFit};
 ghost use Rattle.reach.specs.Columns.{Placed};
 ghost use Rattle.judge.specs.Nodes.{modalKind, saysNow, PlainFits, Added, ModalFits, ModalDone, Known, NodeDone, cutOf, Stepped, Kept, Ready};
 
@@ -47,10 +47,10 @@ pub(crate) struct Have {
 
 // The steps made ready for a node: where it is a D or B of another automaton than the one they are of, they are filled anew.
 pub(crate) fn ready(job: Job, have: Have, edges: &[u32], words: &[u64], steps: &mut [u16]) -> Have
-    requires { ⌜ ((t : Table) × (row : Row) × (log : List ℕ) × Known t row job log (now edges) (now words)) ⌝ }
-    requires { ⌜ (length (now steps) ≡ 49 * length (now words)) × (length (now words) ≤ entryLimit) ⌝ }
-    ensures { λ r. ⌜ ((t : Table) (row : Row) (log : List ℕ) → Known t row job log (now (edges .entry)) (now (words .entry))
-        → Kept t (now (edges .entry)) (now (words .entry)) (job .number .0) have (now (steps .entry)) → Ready t job (now (edges .entry)) (now (words .entry)) r (now (steps .exit))) ⌝ }
+    requires { ⌜ ((t : Table) × (row : Row) × (log : List ℕ) × Known t row job log (now edges) (paired (now words))) ⌝ }
+    requires { ⌜ (length (now steps) ≡ 49 * length (paired (now words))) × (length (paired (now words)) ≤ entryLimit) ⌝ }
+    ensures { λ r. ⌜ ((t : Table) (row : Row) (log : List ℕ) → Known t row job log (now (edges .entry)) (paired (now (words .entry)))
+        → Kept t (now (edges .entry)) (paired (now (words .entry))) (job .number .0) have (now (steps .entry)) → Ready t job (now (edges .entry)) (paired (now (words .entry))) r (now (steps .exit))) ⌝ }
 {
     let m = job.line.a;
     if !is_modal(job.line.kind) {
@@ -77,11 +77,11 @@ pub(crate) fn judge_node(
     steps: &[u16],
     masks: &mut [u16],
 ) -> NodeAnswer
-    requires { ⌜ ((t : Table) × (row : Row) × (edges : List ℕ) × Known t row job (now log) edges (now words)) ⌝ }
-    requires { ⌜ (modalKind (job .line .kind) ≡ true → Placed (length (now words)) (now steps)) ⌝ }
+    requires { ⌜ ((t : Table) × (row : Row) × (edges : List ℕ) × Known t row job (now log) edges (paired (now words))) ⌝ }
+    requires { ⌜ (modalKind (job .line .kind) ≡ true → Placed (length (paired (now words))) (now steps)) ⌝ }
     requires { ⌜ (length (now masks) ≡ length (now log)) × (length (now log) ≤ entryLimit) ⌝ }
-    ensures { λ r. ⌜ ((t : Table) (row : Row) (edges : List ℕ) → Known t row job (now (log .entry)) edges (now (words .entry))
-        → (modalKind (job .line .kind) ≡ true → Stepped (cutOf (job .automaton) edges) (now (words .entry)) looks (now (steps .entry))) → NodeDone t row job (now (log .entry)) (now (words .exit)) r) ⌝ }
+    ensures { λ r. ⌜ ((t : Table) (row : Row) (edges : List ℕ) → Known t row job (now (log .entry)) edges (paired (now (words .entry)))
+        → (modalKind (job .line .kind) ≡ true → Stepped (cutOf (job .automaton) edges) (paired (now (words .entry))) looks (now (steps .entry))) → NodeDone t row job (now (log .entry)) (paired (now (words .exit))) r) ⌝ }
 {
     let line = job.line;
     if !is_modal(line.kind) {
@@ -94,16 +94,16 @@ pub(crate) fn judge_node(
 // A line that is no D or B: its bits, and how many of them it set.
 fn judge_plain(line: NodeLine, number: Node, log: &[u32], words: &mut [u64]) -> usize
     requires { ⌜ PlainFits line ⌝ }
-    requires { ⌜ (number .0 < nodeLimit) × (length (now words) ≡ length (now log)) × ((i : ℕ) → i < length (now words) → at (now words) i < 2 ^ number .0) ⌝ }
-    ensures { λ r. ⌜ Added (number .0) (λ i. saysNow (lineOf (line .kind) (line .a) (line .b)) (at (now (log .entry)) i) (at (now (words .entry)) i)) (length (now (words .entry))) (now (words .entry)) (now (words .exit)) r ⌝ }
+    requires { ⌜ (number .0 < nodeLimit) × (length (paired (now words)) ≡ length (now log)) × ((i : ℕ) → i < length (paired (now words)) → at (paired (now words)) i < 2 ^ number .0) ⌝ }
+    ensures { λ r. ⌜ Added (number .0) (λ i. saysNow (lineOf (line .kind) (line .a) (line .b)) (at (now (log .entry)) i) (at (paired (now (words .entry))) i))
+        (length (paired (now (words .entry)))) (paired (now (words .entry))) (paired (now (words .exit))) r ⌝ }
 {
     let n = log.len();
     let mut held: usize = 0;
     let mut i: usize = 0;
     while i < n {
-        let w = words[i];
-        let on = plain_line(line, log[i], w);
-        words[i] = reach::with_verdict(w, number, on);
+        let on = plain_line(line, log[i], &*words, i);
+        reach::put_verdict(words, i, number, on);
         held = counted(held, on);
         i += 1;
     }
@@ -118,10 +118,10 @@ fn judge_modal(
     steps: &[u16],
     masks: &mut [u16],
 ) -> NodeAnswer
-    requires { ⌜ Placed (length (now words)) (now steps) ⌝ }
+    requires { ⌜ Placed (length (paired (now words))) (now steps) ⌝ }
     requires { ⌜ ModalFits job ⌝ }
-    requires { ⌜ (length (now masks) ≡ length (now words)) × (length (now words) ≤ entryLimit) × ((i : ℕ) → i < length (now words) → at (now words) i < 2 ^ job .number .0) ⌝ }
-    ensures { λ r. ⌜ ((E : List ℕ) → EdgesFit E → Stepped E (now (words .entry)) looks (now (steps .entry)) → ModalDone E job (now (words .entry)) (now (words .exit)) r) ⌝ }
+    requires { ⌜ (length (now masks) ≡ length (paired (now words))) × (length (paired (now words)) ≤ entryLimit) × ((i : ℕ) → i < length (paired (now words)) → at (paired (now words)) i < 2 ^ job .number .0) ⌝ }
+    ensures { λ r. ⌜ ((E : List ℕ) → EdgesFit E → Stepped E (paired (now (words .entry))) looks (now (steps .entry)) → ModalDone E job (paired (now (words .entry))) (paired (now (words .exit))) r) ⌝ }
 {
     let want = job.line.kind == b'D';
     let goal = Goal {
@@ -139,8 +139,8 @@ fn judge_modal(
 
 // A D or B node's bits, from the masks at its automaton's start, and how many of them it set.
 fn write_modal(job: Job, want: bool, masks: &[u16], words: &mut [u64]) -> usize
-    requires { ⌜ (job .automaton .start .0 < 64) × (job .number .0 < nodeLimit) × (length (now words) ≡ length (now masks)) × ((i : ℕ) → i < length (now words) → at (now words) i < 2 ^ job .number .0) ⌝ }
-    ensures { λ r. ⌜ Added (job .number .0) (λ i. facing want (bitOf (at (now (masks .entry)) i) (job .automaton .start .0))) (length (now (words .entry))) (now (words .entry)) (now (words .exit)) r ⌝ }
+    requires { ⌜ (job .automaton .start .0 < wordBits) × (job .number .0 < nodeLimit) × (length (paired (now words)) ≡ length (now masks)) × ((i : ℕ) → i < length (paired (now words)) → at (paired (now words)) i < 2 ^ job .number .0) ⌝ }
+    ensures { λ r. ⌜ Added (job .number .0) (λ i. facing want (bitOf (at (now (masks .entry)) i) (job .automaton .start .0))) (length (paired (now (words .entry)))) (paired (now (words .entry))) (paired (now (words .exit))) r ⌝ }
 {
     let n = masks.len();
     let mut set: usize = 0;
@@ -148,7 +148,7 @@ fn write_modal(job: Job, want: bool, masks: &[u16], words: &mut [u64]) -> usize
     while i < n {
         let x = masks[i] as u64;
         let on = reach::facing(want, reach::bit(x, job.automaton.start.0));
-        words[i] = reach::with_verdict(words[i], job.number, on);
+        reach::put_verdict(words, i, job.number, on);
         set = counted(set, on);
         i += 1;
     }

@@ -10,10 +10,13 @@ ghost use Rattle.io.specs.Counts.{Counts};
 // One entry more than a log may have.
 const MOST: usize = aldlf::ENTRIES + 1;
 
+// One place more than the verdict words of a log.
+const PLACES: usize = 2 * aldlf::ENTRIES + 1;
+
 // Judges a whole log.
 pub(crate) fn whole(line: &[u8]) {
     let mut log = [0u32; MOST];
-    let mut verdicts = [170u64; MOST];
+    let mut verdicts = [170u64; PLACES];
     let n = words_of(line, &mut log);
     let m = room(line, &verdicts);
     whole_in(line, &log[..n], &mut verdicts[..m]);
@@ -28,7 +31,7 @@ fn whole_in(line: &[u8], log: &[u32], verdicts: &mut [u64]) {
 // Judges a part that is given the row in hand; the row in hand after it.
 pub(crate) fn part(line: &[u8], way: Way, row: Row) -> Row {
     let mut words = [0u32; MOST];
-    let mut verdicts = [170u64; MOST];
+    let mut verdicts = [170u64; PLACES];
     let n = words_of(line, &mut words);
     let m = room(line, &verdicts);
     part_in(line, way, row, &words[..n], &mut verdicts[..m])

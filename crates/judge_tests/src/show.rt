@@ -34,13 +34,15 @@ fn yes(on: bool) {
     put(b" no");
 }
 
-// The numbers of a row's first four nodes.
+// The numbers of a row's first four nodes and of its last.
 pub(crate) fn row(row: Row) {
     put(b" row");
     number(wide(row.bits[0]));
     number(wide(row.bits[1]));
     number(wide(row.bits[2]));
     number(wide(row.bits[3]));
+    put(b" ..");
+    number(wide(row.bits[aldlf::NODES - 1]));
 }
 
 // The words from a place on.

@@ -1,13 +1,13 @@
 -- How long a line is: a refusal, at most 512 entries of 6 bytes, the rule, a walk of at most 8,191 edges of at most 4 bytes.
 use Prim.Native.Nat.{ℕ, zero, suc, _*_, _≤_, _<_}
-use mathlib.Core.Bool.{Bool, true, false}
+use mathlib.Core.Bool.{Bool, true, false, _&&_}
 use mathlib.Core.List.{List}
 use native.Mathlib.Omega.{arith}
+use lib.Dec.{ltb}
 use lib.ListN.{length, getD, length-append}
-use Rattle.aldlf.specs.Constants.{entryLimit, edgeLimit}
-use Rattle.aldlf.specs.Outcomes.{one}
-use Rattle.reach.specs.Marks.{verdictIn}
-use Rattle.lines.specs.Lines.{verdictDigit, refusalLine, entryLine, entriesBelow, ruleLine, verdictLines, edgesBelow, walkLine}
+use Rattle.aldlf.specs.Constants.{nodeLimit, entryLimit, edgeLimit}
+use Rattle.aldlf.specs.Outcomes.{one, verdictAt}
+use Rattle.lines.specs.Lines.{entriesIn, verdictDigit, refusalLine, entryLine, entriesBelow, ruleLine, verdictLines, edgesBelow, walkLine}
 use Rattle.appending.proofs.Decimals.{decimal-length}
 
 -- a refusal
@@ -15,8 +15,8 @@ pub refusal-length : (q k : ℕ) → q < 100 → k < 100000 → length (refusalL
 unfolding refusalLine
 refusal-length q k hq hk = simp length-append (omega (arith, decimal-length 1 q hq, decimal-length 4 k hk))
 
-verdict-le : (w k : ℕ) → verdictDigit w k < 10
-verdict-le w k = go (verdictIn w k)
+verdict-le : (words : List ℕ) (i k : ℕ) → verdictDigit words i k < 10
+verdict-le words i k = go (ltb k nodeLimit && (ltb i (entriesIn words) && verdictAt words i k))
   where
     go : (b : Bool) → one b < 10
     go true = omega arith
@@ -30,22 +30,22 @@ entries-length : (rule : ℕ) (words : List ℕ) (n : ℕ) → n ≤ 1000 → le
 unfolding entriesBelow
 entries-length rule words zero h = omega arith
 entries-length rule words (suc n) h =
-    let e = entryLine n (verdictDigit (getD words n 0) rule) in
-    omega (arith, length-append (entriesBelow rule words n) e, entries-length rule words n (omega arith), entry-length n (verdictDigit (getD words n 0) rule) (omega arith) (verdict-le (getD words n 0) rule))
+    let e = entryLine n (verdictDigit words n rule) in
+    omega (arith, length-append (entriesBelow rule words n) e, entries-length rule words n (omega arith), entry-length n (verdictDigit words n rule) (omega arith) (verdict-le words n rule))
 
 rule-length : (v held n : ℕ) → v < 10 → held < 1000 → n < 1000 → length (ruleLine v held n) ≤ 23
 unfolding ruleLine
 rule-length v held n hv hh hn = simp length-append (omega (arith, decimal-length 0 v hv, decimal-length 2 held hh, decimal-length 2 n hn))
 
-pub verdicts-length : (rule held : ℕ) (words : List ℕ) → held ≤ entryLimit → length words ≤ entryLimit → length (verdictLines rule held words) ≤ 3095
+pub verdicts-length : (rule held : ℕ) (words : List ℕ) → held ≤ entryLimit → entriesIn words ≤ entryLimit → length (verdictLines rule held words) ≤ 3095
 unfolding verdictLines
 verdicts-length rule held words hh hw =
-    let r = ruleLine (verdictDigit (getD words 0 0) rule) held (length words) in
+    let r = ruleLine (verdictDigit words 0 rule) held (entriesIn words) in
     omega (
       arith,
-      length-append (entriesBelow rule words (length words)) r,
-      entries-length rule words (length words) (omega arith),
-      rule-length (verdictDigit (getD words 0 0) rule) held (length words) (verdict-le (getD words 0 0) rule) (omega arith) (omega arith),
+      length-append (entriesBelow rule words (entriesIn words)) r,
+      entries-length rule words (entriesIn words) (omega arith),
+      rule-length (verdictDigit words 0 rule) held (entriesIn words) (verdict-le words 0 rule) (omega arith) (omega arith),
     )
 
 edges-length : (es : List ℕ) (n : ℕ) → ((x : ℕ) → getD es x 0 < edgeLimit) → length (edgesBelow es n) ≤ 4 * n

@@ -1,10 +1,12 @@
 -- The lines of the printed page, as bytes.
-use Prim.Native.Nat.{ℕ, zero, suc}
+use Prim.Native.Nat.{ℕ, zero, suc, _/_}
+use mathlib.Core.Bool.{_&&_}
 use mathlib.Core.List.{List, [], _∷_, _++_}
+use lib.Dec.{ltb}
 use lib.ListN.{getD, length}
-use Rattle.aldlf.specs.Outcomes.{one}
+use Rattle.aldlf.specs.Constants.{nodeLimit}
+use Rattle.aldlf.specs.Outcomes.{one, verdictAt}
 use Rattle.text.specs.Text.{lf, comma}
-use Rattle.reach.specs.Marks.{verdictIn}
 use Rattle.appending.specs.Appending.{decimal}
 
 -- `rule,`
@@ -35,9 +37,13 @@ wordRefused = 114 ∷ 101 ∷ 102 ∷ 117 ∷ 115 ∷ 101 ∷ 100 ∷ 44 ∷ []
 unfoldable pub refusalLine : (number line : ℕ) → List ℕ
 refusalLine number line = wordRefused ++ decimal number ++ (comma ∷ []) ++ decimal line ++ (lf ∷ [])
 
--- the verdict on node k in an entry's word, as a digit
-abbrev pub verdictDigit : (word k : ℕ) → ℕ
-verdictDigit word k = one (verdictIn word k)
+-- how many entries have these verdict words, two for each
+abbrev pub entriesIn : List ℕ → ℕ
+entriesIn words = length words / 2
+
+-- the verdict on node k at entry i, as a digit; 0 where there is no such node or entry
+abbrev pub verdictDigit : List ℕ → (i k : ℕ) → ℕ
+verdictDigit words i k = one (ltb k nodeLimit && (ltb i (entriesIn words) && verdictAt words i k))
 
 -- an entry: its number and the rule's verdict
 unfoldable pub entryLine : (i verdict : ℕ) → List ℕ
@@ -46,7 +52,7 @@ entryLine i verdict = decimal i ++ (comma ∷ []) ++ decimal verdict ++ (lf ∷ 
 -- the lines of the first n entries
 unfoldable pub entriesBelow : (rule : ℕ) → List ℕ → (n : ℕ) → List ℕ
 entriesBelow rule words zero = []
-entriesBelow rule words (suc n) = entriesBelow rule words n ++ entryLine n (verdictDigit (getD words n 0) rule)
+entriesBelow rule words (suc n) = entriesBelow rule words n ++ entryLine n (verdictDigit words n rule)
 
 -- `rule,` the verdict at entry 0, `,held,` the count held, `,of,` the log's length
 unfoldable pub ruleLine : (verdict held entries : ℕ) → List ℕ
@@ -54,7 +60,7 @@ ruleLine verdict held entries = wordRule ++ decimal verdict ++ wordHeld ++ decim
 
 -- the lines of all entries, then that of the rule
 unfoldable pub verdictLines : (rule held : ℕ) → List ℕ → List ℕ
-verdictLines rule held words = entriesBelow rule words (length words) ++ ruleLine (verdictDigit (getD words 0 0) rule) held (length words)
+verdictLines rule held words = entriesBelow rule words (entriesIn words) ++ ruleLine (verdictDigit words 0 rule) held (entriesIn words)
 
 -- the first n edges of a walk, each after a comma
 unfoldable pub edgesBelow : List ℕ → (n : ℕ) → List ℕ

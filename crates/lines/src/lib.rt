@@ -5,8 +5,8 @@ use appending::put;
 use appending::put_bytes;
 use appending::put_number;
 ghost use mathlib.Core.Path.{_≡_};
-ghost use lib.ListN.{length, getD};
-ghost use Rattle.lines.specs.Lines.{refusalLine, verdictDigit, entryLine, entriesBelow, ruleLine, verdictLines, edgesBelow, walkLine, noWalkLine};
+ghost use lib.ListN.{length};
+ghost use Rattle.lines.specs.Lines.{refusalLine, entriesIn, verdictDigit, entryLine, entriesBelow, ruleLine, verdictLines, edgesBelow, walkLine, noWalkLine};
 ghost use Rattle.appending.specs.Appending.{Appends};
 
 // `refused,number,line`
@@ -20,14 +20,17 @@ pub fn put_refusal(out: &mut [u8], at: usize, number: u8, line: usize) -> usize
     put(out, end_at, b'\n')
 }
 
-// The verdict on a node in an entry's word, as a digit: 1 where it holds.
-fn verdict_digit(word: u64, node: Node) -> usize
-    ensures { λ r. ⌜ r ≡ verdictDigit word (node .0) ⌝ }
+// The verdict on a node at an entry, as a digit: 1 where it holds, 0 where it fails, and where there is no such node or entry.
+fn verdict_digit(words: &[u64], entry: usize, node: Node) -> usize
+    ensures { λ r. ⌜ r ≡ verdictDigit (now (words .entry)) entry (node .0) ⌝ }
 {
     if aldlf::NODES <= node.0 as usize {
         return 0;
     }
-    if reach::verdict(word, node) {
+    if words.len() / 2 <= entry {
+        return 0;
+    }
+    if reach::verdict(words, entry, node) {
         return 1;
     }
     0
@@ -45,12 +48,13 @@ fn put_entry(out: &mut [u8], at: usize, entry: usize, verdict: usize) -> usize
 
 // A line for each entry.
 fn put_entries(out: &mut [u8], at: usize, words: &[u64], rule: Node) -> usize
-    ensures { λ r. ⌜ Appends (entriesBelow (rule .0) (now (words .entry)) (length (now (words .entry)))) (now (out .entry)) at (now (out .exit)) r ⌝ }
+    ensures { λ r. ⌜ Appends (entriesBelow (rule .0) (now (words .entry)) (entriesIn (now (words .entry)))) (now (out .entry)) at (now (out .exit)) r ⌝ }
 {
+    let n = words.len() / 2;
     let mut next = at;
     let mut i: usize = 0;
-    while i < words.len() {
-        let verdict = verdict_digit(words[i], rule);
+    while i < n {
+        let verdict = verdict_digit(words, i, rule);
         next = put_entry(out, next, i, verdict);
         i += 1;
     }
@@ -70,23 +74,13 @@ fn put_rule(out: &mut [u8], at: usize, verdict: usize, held: usize, entries: usi
     put(out, end_at, b'\n')
 }
 
-// The word of entry 0; 0 of a log without entries.
-fn first_word(words: &[u64]) -> u64
-    ensures { λ r. ⌜ r ≡ getD (now (words .entry)) 0 0 ⌝ }
-{
-    if words.len() == 0 {
-        return 0;
-    }
-    words[0]
-}
-
-// A line for each entry, then that of the rule.
+// A line for each entry, by its two verdict words, then that of the rule.
 pub fn put_verdicts(out: &mut [u8], at: usize, words: &[u64], rule: Node, held: usize) -> usize
     ensures { λ r. ⌜ Appends (verdictLines (rule .0) held (now (words .entry))) (now (out .entry)) at (now (out .exit)) r ⌝ }
 {
     let rule_at = put_entries(out, at, words, rule);
-    let verdict = verdict_digit(first_word(words), rule);
-    put_rule(out, rule_at, verdict, held, words.len())
+    let verdict = verdict_digit(words, 0, rule);
+    put_rule(out, rule_at, verdict, held, words.len() / 2)
 }
 
 // The edges of a walk, each after a comma.

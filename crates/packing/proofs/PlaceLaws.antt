@@ -15,7 +15,7 @@ use Rattle.aldlf.specs.declared.Automaton.{Automaton}
 use Rattle.aldlf.specs.declared.Used.{Used}
 use Rattle.aldlf.specs.declared.Table.{Table}
 use Rattle.aldlf.proofs.Bools.{bool-cases}
-use Rattle.packing.specs.Numbers.{places, edgeIn, lineIn, automatonIn, lentAutomaton}
+use Rattle.packing.specs.Numbers.{linesPlace, headsPlace, rangesPlace, beforePlace, countsPlace, places, edgeIn, lineIn, automatonIn, lentAutomaton}
 use Rattle.packing.specs.Packed.{Packed, Put, HeadPut, HeadsPut, UsedPut}
 
 abbrev at : List ℕ → ℕ → ℕ
@@ -40,33 +40,33 @@ put-next P place n before after v K l p =
 -- an automaton's three numbers in their places
 module _ (x : Automaton) (m : ℕ) (before : List ℕ) (h r b : ℕ) (size : length before ≡ places) (l : m < automatonLimit) (is : automatonIn h r b ≡ x) where
   abbrev one : List ℕ
-  one = set before (320 + m) h
+  one = set before (headsPlace + m) h
 
   abbrev two : List ℕ
-  two = set one (336 + m) r
+  two = set one (rangesPlace + m) r
 
   abbrev all : List ℕ
-  all = set two (352 + m) b
+  all = set two (beforePlace + m) b
 
-  first : at all (320 + m) ≡ h
-  first = getD-set-other two (352 + m) (320 + m) b 0 (λ e. omega arith) ∙ getD-set-other one (336 + m) (320 + m) r 0 (λ e. omega arith) ∙ getD-set-same before (320 + m) h 0 (omega arith)
+  first : at all (headsPlace + m) ≡ h
+  first = getD-set-other two (beforePlace + m) (headsPlace + m) b 0 (λ e. omega arith) ∙ getD-set-other one (rangesPlace + m) (headsPlace + m) r 0 (λ e. omega arith) ∙ getD-set-same before (headsPlace + m) h 0 (omega arith)
 
-  second : at all (336 + m) ≡ r
-  second = getD-set-other two (352 + m) (336 + m) b 0 (λ e. omega arith) ∙ getD-set-same one (336 + m) r 0 (omega (arith, length-set before (320 + m) h))
+  second : at all (rangesPlace + m) ≡ r
+  second = getD-set-other two (beforePlace + m) (rangesPlace + m) b 0 (λ e. omega arith) ∙ getD-set-same one (rangesPlace + m) r 0 (omega (arith, length-set before (headsPlace + m) h))
 
-  third : at all (352 + m) ≡ b
-  third = getD-set-same two (352 + m) b 0 (omega (arith, length-set before (320 + m) h, length-set one (336 + m) r))
+  third : at all (beforePlace + m) ≡ b
+  third = getD-set-same two (beforePlace + m) b 0 (omega (arith, length-set before (headsPlace + m) h, length-set one (rangesPlace + m) r))
 
-  pub head-put : HeadPut x m before (set (set (set before (320 + m) h) (336 + m) r) (352 + m) b)
+  pub head-put : HeadPut x m before (set (set (set before (headsPlace + m) h) (rangesPlace + m) r) (beforePlace + m) b)
   head-put =
       record {
-        same = length-set two (352 + m) b ∙ length-set one (336 + m) r ∙ length-set before (320 + m) h;
+        same = length-set two (beforePlace + m) b ∙ length-set one (rangesPlace + m) r ∙ length-set before (headsPlace + m) h;
         here =
-            ap (λ (z : ℕ). automatonIn z (at all (336 + m)) (at all (352 + m))) first
-            ∙ ap (λ (z : ℕ). automatonIn h z (at all (352 + m))) second
+            ap (λ (z : ℕ). automatonIn z (at all (rangesPlace + m)) (at all (beforePlace + m))) first
+            ∙ ap (λ (z : ℕ). automatonIn h z (at all (beforePlace + m))) second
             ∙ ap (λ (z : ℕ). automatonIn h r z) third
             ∙ is;
-        others = λ i ne1 ne2 ne3. getD-set-other two (352 + m) i b 0 ne3 ∙ getD-set-other one (336 + m) i r 0 ne2 ∙ getD-set-other before (320 + m) i h 0 ne1;
+        others = λ i ne1 ne2 ne3. getD-set-other two (beforePlace + m) i b 0 ne3 ∙ getD-set-other one (rangesPlace + m) i r 0 ne2 ∙ getD-set-other before (headsPlace + m) i h 0 ne1;
       }
 
 pub heads-none : (automata : List Automaton) (l : List ℕ) → HeadsPut automata 0 l l
@@ -84,48 +84,48 @@ heads-next automata n before after last l K H =
     go : (m : ℕ) → m < n + 1 → (eqb m n ≡ true) ⊎ (eqb m n ≡ false) → lentAutomaton last m ≡ getD automata m noAutomaton
     go m h (inl z) = subst (λ (j : ℕ). lentAutomaton last j ≡ getD automata j noAutomaton) (sym (eqb-true m n z)) (H .here)
     go m h (inr z) = let ne = eqb-false m n z in
-        ap (λ (y : ℕ). automatonIn y (at last (336 + m)) (at last (352 + m))) (H .others (320 + m) (λ e. omega arith) (λ e. omega arith) (λ e. omega arith))
-        ∙ ap (λ (y : ℕ). automatonIn (at after (320 + m)) y (at last (352 + m))) (H .others (336 + m) (λ e. omega arith) (λ e. omega arith) (λ e. omega arith))
-        ∙ ap (λ (y : ℕ). automatonIn (at after (320 + m)) (at after (336 + m)) y) (H .others (352 + m) (λ e. omega arith) (λ e. omega arith) (λ e. omega arith))
+        ap (λ (y : ℕ). automatonIn y (at last (rangesPlace + m)) (at last (beforePlace + m))) (H .others (headsPlace + m) (λ e. omega arith) (λ e. omega arith) (λ e. omega arith))
+        ∙ ap (λ (y : ℕ). automatonIn (at after (headsPlace + m)) y (at last (beforePlace + m))) (H .others (rangesPlace + m) (λ e. omega arith) (λ e. omega arith) (λ e. omega arith))
+        ∙ ap (λ (y : ℕ). automatonIn (at after (headsPlace + m)) (at after (rangesPlace + m)) y) (H .others (beforePlace + m) (λ e. omega arith) (λ e. omega arith) (λ e. omega arith))
         ∙ K .done m (omega arith)
 
 -- the counts in their places
 module _ (u : Used) (before : List ℕ) (size : length before ≡ places) (n : u .nodes < 256) (a : u .automata < 256) (e : u .edges < 65536) where
   abbrev nodes-put : List ℕ
-  nodes-put = set before 368 (u .nodes)
+  nodes-put = set before countsPlace (u .nodes)
 
   abbrev automata-put : List ℕ
-  automata-put = set nodes-put 369 (u .automata)
+  automata-put = set nodes-put (countsPlace + 1) (u .automata)
 
   abbrev edges-put : List ℕ
-  edges-put = set automata-put 370 (u .edges)
+  edges-put = set automata-put (countsPlace + 2) (u .edges)
 
   abbrev counted : (n a e : ℕ) → Used
   counted n a e = record { nodes = n; automata = a; edges = e }
 
-  nodes-is : at edges-put 368 ≡ u .nodes
-  nodes-is = getD-set-other automata-put 370 368 (u .edges) 0 (λ z. omega arith) ∙ getD-set-other nodes-put 369 368 (u .automata) 0 (λ z. omega arith) ∙ getD-set-same before 368 (u .nodes) 0 (omega arith)
+  nodes-is : at edges-put countsPlace ≡ u .nodes
+  nodes-is = getD-set-other automata-put (countsPlace + 2) countsPlace (u .edges) 0 (λ z. omega arith) ∙ getD-set-other nodes-put (countsPlace + 1) countsPlace (u .automata) 0 (λ z. omega arith) ∙ getD-set-same before countsPlace (u .nodes) 0 (omega arith)
 
-  automata-is : at edges-put 369 ≡ u .automata
-  automata-is = getD-set-other automata-put 370 369 (u .edges) 0 (λ z. omega arith) ∙ getD-set-same nodes-put 369 (u .automata) 0 (omega (arith, length-set before 368 (u .nodes)))
+  automata-is : at edges-put (countsPlace + 1) ≡ u .automata
+  automata-is = getD-set-other automata-put (countsPlace + 2) (countsPlace + 1) (u .edges) 0 (λ z. omega arith) ∙ getD-set-same nodes-put (countsPlace + 1) (u .automata) 0 (omega (arith, length-set before countsPlace (u .nodes)))
 
-  edges-is : at edges-put 370 ≡ u .edges
-  edges-is = getD-set-same automata-put 370 (u .edges) 0 (omega (arith, length-set before 368 (u .nodes), length-set nodes-put 369 (u .automata)))
+  edges-is : at edges-put (countsPlace + 2) ≡ u .edges
+  edges-is = getD-set-same automata-put (countsPlace + 2) (u .edges) 0 (omega (arith, length-set before countsPlace (u .nodes), length-set nodes-put (countsPlace + 1) (u .automata)))
 
-  pub used-put : UsedPut u before (set (set (set before 368 (u .nodes)) 369 (u .automata)) 370 (u .edges))
+  pub used-put : UsedPut u before (set (set (set before countsPlace (u .nodes)) (countsPlace + 1) (u .automata)) (countsPlace + 2) (u .edges))
   used-put =
       record {
-        same = length-set automata-put 370 (u .edges) ∙ length-set nodes-put 369 (u .automata) ∙ length-set before 368 (u .nodes);
+        same = length-set automata-put (countsPlace + 2) (u .edges) ∙ length-set nodes-put (countsPlace + 1) (u .automata) ∙ length-set before countsPlace (u .nodes);
         here =
-            ap (λ (x : ℕ). counted x (at edges-put 369 % 256) (at edges-put 370 % 65536)) (omega (arith, nodes-is))
-            ∙ ap (λ (x : ℕ). counted (u .nodes) x (at edges-put 370 % 65536)) (omega (arith, automata-is))
+            ap (λ (x : ℕ). counted x (at edges-put (countsPlace + 1) % 256) (at edges-put (countsPlace + 2) % 65536)) (omega (arith, nodes-is))
+            ∙ ap (λ (x : ℕ). counted (u .nodes) x (at edges-put (countsPlace + 2) % 65536)) (omega (arith, automata-is))
             ∙ ap (λ (x : ℕ). counted (u .nodes) (u .automata) x) (omega (arith, edges-is));
-        low = λ i l. getD-set-other automata-put 370 i (u .edges) 0 (λ z. omega arith) ∙ getD-set-other nodes-put 369 i (u .automata) 0 (λ z. omega arith) ∙ getD-set-other before 368 i (u .nodes) 0 (λ z. omega arith);
+        low = λ i l. getD-set-other automata-put (countsPlace + 2) i (u .edges) 0 (λ z. omega arith) ∙ getD-set-other nodes-put (countsPlace + 1) i (u .automata) 0 (λ z. omega arith) ∙ getD-set-other before countsPlace i (u .nodes) 0 (λ z. omega arith);
       }
 
 -- a table whose pieces are all in their places
 pub all-packed : (t : Table) (first edges lines heads last : List ℕ) → length first ≡ places → length (t .nodes) ≡ nodeLimit → length (t .automata) ≡ automatonLimit → length (t .edges) ≡ edgeLimit
-    → Put (λ (e p : ℕ). edgeIn p ≡ getD (t .edges) e noEdge) 0 edgeLimit first edges → Put (λ (k p : ℕ). lineIn p ≡ getD (t .nodes) k noLine) 256 nodeLimit edges lines
+    → Put (λ (e p : ℕ). edgeIn p ≡ getD (t .edges) e noEdge) 0 edgeLimit first edges → Put (λ (k p : ℕ). lineIn p ≡ getD (t .nodes) k noLine) linesPlace nodeLimit edges lines
     → HeadsPut (t .automata) automatonLimit lines heads → UsedPut (t .used) heads last → Packed t last
 all-packed t first edges lines heads last size ln la le E L H U =
     record {
@@ -133,11 +133,11 @@ all-packed t first edges lines heads last size ln la le E L H U =
       nodes-length = ln;
       automata-length = la;
       edges-length = le;
-      line-is = λ k l. ap lineIn (U .low (256 + k) (omega arith) ∙ H .low (256 + k) (omega arith)) ∙ L .done k l;
+      line-is = λ k l. ap lineIn (U .low (linesPlace + k) (omega arith) ∙ H .low (linesPlace + k) (omega arith)) ∙ L .done k l;
       automaton-is = λ m l.
-          ap (λ (y : ℕ). automatonIn y (at last (336 + m)) (at last (352 + m))) (U .low (320 + m) (omega arith))
-          ∙ ap (λ (y : ℕ). automatonIn (at heads (320 + m)) y (at last (352 + m))) (U .low (336 + m) (omega arith))
-          ∙ ap (λ (y : ℕ). automatonIn (at heads (320 + m)) (at heads (336 + m)) y) (U .low (352 + m) (omega arith))
+          ap (λ (y : ℕ). automatonIn y (at last (rangesPlace + m)) (at last (beforePlace + m))) (U .low (headsPlace + m) (omega arith))
+          ∙ ap (λ (y : ℕ). automatonIn (at heads (headsPlace + m)) y (at last (beforePlace + m))) (U .low (rangesPlace + m) (omega arith))
+          ∙ ap (λ (y : ℕ). automatonIn (at heads (headsPlace + m)) (at heads (rangesPlace + m)) y) (U .low (beforePlace + m) (omega arith))
           ∙ H .done m l;
       edge-is = λ e l. ap edgeIn (U .low e (omega arith) ∙ H .low e (omega arith) ∙ L .low e (omega arith)) ∙ subst (λ (i : ℕ). edgeIn (at edges i) ≡ getD (t .edges) e noEdge) (omega arith) (E .done e l);
       used-is = U .here;

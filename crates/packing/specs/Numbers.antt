@@ -2,14 +2,33 @@
 use Prim.Native.Nat.{ℕ, _+_, _*_, _/_, _%_}
 use mathlib.Core.List.{List}
 use lib.ListN.{getD}
+use Rattle.aldlf.specs.Constants.{nodeLimit, automatonLimit, edgeLimit}
 use Rattle.aldlf.specs.declared.NodeLine.{NodeLine}
 use Rattle.aldlf.specs.declared.Automaton.{Automaton}
 use Rattle.aldlf.specs.declared.Edge.{Edge}
 use Rattle.aldlf.specs.declared.Used.{Used}
 
+-- Where the node lines start: after the edges.
+abbrev pub linesPlace : ℕ
+linesPlace = edgeLimit
+
+-- Where the automata's three columns start, one after the other: states, start and accepting states; edges; nodes above.
+abbrev pub headsPlace : ℕ
+headsPlace = linesPlace + nodeLimit
+
+abbrev pub rangesPlace : ℕ
+rangesPlace = headsPlace + automatonLimit
+
+abbrev pub beforePlace : ℕ
+beforePlace = rangesPlace + automatonLimit
+
+-- Where the three counts in use start.
+abbrev pub countsPlace : ℕ
+countsPlace = beforePlace + automatonLimit
+
 -- How many numbers a table takes.
 abbrev pub places : ℕ
-places = 371
+places = countsPlace + 3
 
 -- An edge as one number, a byte for each field; the edge that is packed into the lowest 32 bits of a number.
 abbrev pub packedOf : Edge → ℕ
@@ -32,10 +51,10 @@ abbrev pub lentEdge : List ℕ → ℕ → Edge
 lentEdge numbers e = edgeIn (getD numbers e 0)
 
 abbrev pub lentLine : List ℕ → ℕ → NodeLine
-lentLine numbers k = lineIn (getD numbers (256 + k) 0)
+lentLine numbers k = lineIn (getD numbers (linesPlace + k) 0)
 
 abbrev pub lentAutomaton : List ℕ → ℕ → Automaton
-lentAutomaton numbers m = automatonIn (getD numbers (320 + m) 0) (getD numbers (336 + m) 0) (getD numbers (352 + m) 0)
+lentAutomaton numbers m = automatonIn (getD numbers (headsPlace + m) 0) (getD numbers (rangesPlace + m) 0) (getD numbers (beforePlace + m) 0)
 
 abbrev pub lentUsed : List ℕ → Used
-lentUsed numbers = record { nodes = getD numbers 368 0 % 256; automata = getD numbers 369 0 % 256; edges = getD numbers 370 0 % 65536 }
+lentUsed numbers = record { nodes = getD numbers countsPlace 0 % 256; automata = getD numbers (countsPlace + 1) 0 % 256; edges = getD numbers (countsPlace + 2) 0 % 65536 }

@@ -8,7 +8,7 @@ use Rattle.aldlf.specs.Sheet.{noLine, noEdge, noAutomaton}
 use Rattle.aldlf.specs.declared.Automaton.{Automaton}
 use Rattle.aldlf.specs.declared.Used.{Used}
 use Rattle.aldlf.specs.declared.Table.{Table}
-use Rattle.packing.specs.Numbers.{places, lentEdge, lentLine, lentAutomaton, lentUsed}
+use Rattle.packing.specs.Numbers.{headsPlace, rangesPlace, beforePlace, countsPlace, places, lentEdge, lentLine, lentAutomaton, lentUsed}
 
 -- The numbers are the table's: each place, in use or not, and the counts.
 pub record Packed (t : Table) (numbers : List ℕ) : Type 0 where
@@ -32,17 +32,17 @@ pub record Put (P : ℕ → ℕ → Type 0) (place n : ℕ) (before after : List
 pub record HeadPut (x : Automaton) (m : ℕ) (before after : List ℕ) : Type 0 where
   pub same : length after ≡ length before
   pub here : lentAutomaton after m ≡ x
-  pub others : (i : ℕ) → ¬ (i ≡ 320 + m) → ¬ (i ≡ 336 + m) → ¬ (i ≡ 352 + m) → getD after i 0 ≡ getD before i 0
+  pub others : (i : ℕ) → ¬ (i ≡ headsPlace + m) → ¬ (i ≡ rangesPlace + m) → ¬ (i ≡ beforePlace + m) → getD after i 0 ≡ getD before i 0
 
 -- So were the first n automata.
 pub record HeadsPut (automata : List Automaton) (n : ℕ) (before after : List ℕ) : Type 0 where
   pub same : length after ≡ length before
   pub done : (m : ℕ) → m < n → lentAutomaton after m ≡ getD automata m noAutomaton
-  pub low : (i : ℕ) → i < 320 → getD after i 0 ≡ getD before i 0
-  pub high : (i : ℕ) → 368 ≤ i → getD after i 0 ≡ getD before i 0
+  pub low : (i : ℕ) → i < headsPlace → getD after i 0 ≡ getD before i 0
+  pub high : (i : ℕ) → countsPlace ≤ i → getD after i 0 ≡ getD before i 0
 
 -- The counts were written at their three places.
 pub record UsedPut (u : Used) (before after : List ℕ) : Type 0 where
   pub same : length after ≡ length before
   pub here : lentUsed after ≡ u
-  pub low : (i : ℕ) → i < 368 → getD after i 0 ≡ getD before i 0
+  pub low : (i : ℕ) → i < countsPlace → getD after i 0 ≡ getD before i 0

@@ -1,4 +1,4 @@
-// What a table's numbers have at their places: edge e at e, node line k at 256 + k, automaton m at 320 + m, 336 + m and 352 + m, then the counts in use.
+// What a table's numbers have at their places: edge e at e, node line k at LINES + k, automaton m at HEADS + m, RANGES + m and BEFORE + m, then the counts in use.
 use super::pieces::Head;
 use super::pieces::automaton_in;
 use super::pieces::edge_in;
@@ -14,18 +14,18 @@ ghost use lib.ListN.{length};
 ghost use Rattle.aldlf.specs.Constants.{nodeLimit, automatonLimit, edgeLimit};
 ghost use Rattle.packing.specs.Numbers.{places, lentEdge, lentLine, lentAutomaton, lentUsed};
 
-// How many numbers there are, and where those of the node lines, of the automata and of the counts start.
-pub const PLACES: usize = 371;
+// Where the numbers of the node lines, of the automata and of the counts start, and how many numbers there are.
+pub const LINES: usize = aldlf::EDGES;
 
-pub const LINES: usize = 256;
+pub const HEADS: usize = LINES + aldlf::NODES;
 
-pub const HEADS: usize = 320;
+pub const RANGES: usize = HEADS + aldlf::AUTOMATA;
 
-pub const RANGES: usize = 336;
+pub const BEFORE: usize = RANGES + aldlf::AUTOMATA;
 
-pub const BEFORE: usize = 352;
+pub const USED: usize = BEFORE + aldlf::AUTOMATA;
 
-pub const USED: usize = 368;
+pub const PLACES: usize = USED + 3;
 
 // Edge e.
 pub fn edge_at(numbers: &[u32], e: u16) -> Edge

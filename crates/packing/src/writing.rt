@@ -17,7 +17,7 @@ ghost use Prim.Native.Nat.{ℕ, _<_};
 ghost use lib.ListN.{length, getD};
 ghost use Rattle.aldlf.specs.Constants.{nodeLimit, automatonLimit, edgeLimit};
 ghost use Rattle.aldlf.specs.Sheet.{noLine, noEdge};
-ghost use Rattle.packing.specs.Numbers.{places, edgeIn, lineIn};
+ghost use Rattle.packing.specs.Numbers.{linesPlace, places, edgeIn, lineIn};
 ghost use Rattle.packing.specs.Packed.{Packed, Put, HeadPut, HeadsPut, UsedPut};
 
 // A table's numbers, which take the whole slice.
@@ -49,7 +49,7 @@ fn put_edges(edges: [Edge; aldlf::EDGES], numbers: &mut [u32])
 
 fn put_lines(nodes: [NodeLine; aldlf::NODES], numbers: &mut [u32])
     requires { ⌜ length (now numbers) ≡ places ⌝ }
-    ensures { λ _. ⌜ Put (λ (k p : ℕ). lineIn p ≡ getD nodes k noLine) 256 nodeLimit (now (numbers .entry)) (now (numbers .exit)) ⌝ }
+    ensures { λ _. ⌜ Put (λ (k p : ℕ). lineIn p ≡ getD nodes k noLine) linesPlace nodeLimit (now (numbers .entry)) (now (numbers .exit)) ⌝ }
 {
     let mut k: usize = 0;
     while k < aldlf::NODES {

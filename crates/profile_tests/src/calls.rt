@@ -53,7 +53,7 @@ pub(crate) fn profile_of(t: Table) -> Table {
 // Judges the case's log. The places that are lent hold 170, which is no verdict word of any case.
 pub(crate) fn judged(t: Table, line: &[u8]) {
     let mut log = [0u32; MOST];
-    let mut verdicts = [170u64; MOST];
+    let mut verdicts = [170u64; 2 * MOST];
     let n = words_of(line, &mut log);
     show::judged(judge::judge(t, &log[..n], &mut verdicts));
     show::words(&verdicts);

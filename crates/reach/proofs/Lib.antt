@@ -1,5 +1,7 @@
 pub mod Masks
 pub mod Bits
+pub mod Paired
+pub mod Tests
 pub mod Pulled
 pub mod Made
 pub mod Shared

@@ -5,17 +5,19 @@ use mathlib.Core.Path.{_≡_, refl, sym, subst, ap, _∙_}
 use mathlib.Core.Logic.{_⊎_, inl, inr}
 use mathlib.Core.Bool.{Bool, true, false}
 use mathlib.Core.List.{List}
-use lib.Bits.{bitAnd, bitOr}
+use lib.Bits.{bitOr}
 use lib.Dec.{eqb}
 use lib.ListN.{length, set, length-set}
 use lib.Seq.{getD-set-same, getD-set-other}
 use borrow.Author.Tests.{eqb-true, eqb-false}
-use Rattle.aldlf.specs.Constants.{stateLimit}
+use Rattle.aldlf.specs.Constants.{nodeLimit, stateLimit}
 use Rattle.aldlf.specs.Sheet.{bit}
 use Rattle.aldlf.proofs.Bools.{bool-cases}
 use Rattle.reach.specs.Marks.{at, toOf, dirIn, testOf, EdgesFit}
-use Rattle.reach.specs.Columns.{columnOf, Step, Back, Apart, Columns, Placed, Filled, Filling, Tested}
-use Rattle.reach.proofs.Bits.{bit-agree, in-left, in-right, one-self}
+use Rattle.reach.specs.Columns.{columnOf, Step, Back, Apart, Columns, Placed, Filled, Filling}
+use Rattle.reach.specs.Tests.{inSet, Tested}
+use Rattle.reach.specs.declared.filling.NodeSet.{NodeSet}
+use Rattle.reach.proofs.Bits.{in-left, in-right, one-self}
 use Rattle.reach.proofs.Made.{group-lt}
 
 -- a bit for each of the edges passed, in what was gathered
@@ -80,14 +82,14 @@ module _ (E : List ℕ) (f : EdgesFit E) (words : List ℕ) (n i : ℕ) (l : i <
           go (inr z) = let ne = eqb-false k i z in old k (omega arith)
 
 -- the place of an entry before that agrees on the tested nodes
-pub filling-like : (E : List ℕ) → EdgesFit E → (words : List ℕ) (tested n i j : ℕ) (C : List ℕ) → Tested E tested (length E) → i < n → j < i
-    → bitAnd (at words j) tested ≡ bitAnd (at words i) tested → Filling E words n i C → Filling E words n (i + 1) (set C i (at C j))
+pub filling-like : (E : List ℕ) → EdgesFit E → (words : List ℕ) (tested : NodeSet) (n i j : ℕ) (C : List ℕ) → Tested E tested (length E) → i < n → j < i
+    → ((k : ℕ) → k < nodeLimit → inSet tested k ≡ true → bit (at words i) k ≡ bit (at words j) k) → Filling E words n i C → Filling E words n (i + 1) (set C i (at C j))
 filling-like E f words tested n i j C T l h same F =
     filling-next E f words n i l C F (set C i (at C j)) (length-set C i (at C j)) (λ x _ ne. getD-set-other C i x (at C j) 0 ne)
     (subst (λ (z : ℕ). n ≤ z) (sym here) (F .behind j h)) (omega (arith, here, F .before j h))
     (subst (Columns E (at words i) (set C i (at C j))) (sym here)
     (columns-moved E f (at words i) C (set C i (at C j)) (at C j) (λ x a b. getD-set-other C i x (at C j) 0 (λ z. absurd (omega (arith, F .behind j h))))
-    (columns-like E C (at C j) (at words j) (at words i) (λ e le. bit-agree (at words i) (at words j) tested (testOf (at E e)) (sym same) (T e le)) (F .filled j h))))
+    (columns-like E C (at C j) (at words j) (at words i) (λ e le. same (testOf (at E e)) (f .each e le .test-fits) (T e le)) (F .filled j h))))
   where
     here : at (set C i (at C j)) i ≡ at C j
     here = getD-set-same C i (at C j) 0 (omega (arith, F .long))

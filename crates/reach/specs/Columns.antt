@@ -23,10 +23,6 @@ columnOf p = 16 * groupOf (dirIn p) + toOf p
 abbrev pub Told : List ℕ → (looks n : ℕ) → Type 0
 Told E looks n = (e : ℕ) → e < n → bit looks (groupOf (dirIn (at E e))) ≡ true
 
--- Bit k of `tested` is set for the node of each of the first n edges.
-abbrev pub Tested : List ℕ → (tested n : ℕ) → Type 0
-Tested E tested n = (e : ℕ) → e < n → bit tested (testOf (at E e)) ≡ true
-
 -- One of the first k edges goes from s to t, in a direction of group g, and its node holds by the entry's word.
 pub record Step (E : List ℕ) (word k g s t : ℕ) : Type 0 where
   pub edge : ℕ

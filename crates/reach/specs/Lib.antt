@@ -1,3 +1,4 @@
 pub mod Marks
 pub mod Columns
+pub mod Tests
 pub mod Steps

@@ -8,7 +8,7 @@ ghost use lib.Bits.{bitOr};
 ghost use lib.ListN.{length, set};
 ghost use Rattle.aldlf.specs.Constants.{stateLimit};
 ghost use Rattle.aldlf.specs.Sheet.{«bit» as bitOf};
-ghost use Rattle.reach.specs.Marks.{at, pick, testOf, fromOf, EdgeFits, EdgesFit};
+ghost use Rattle.reach.specs.Marks.{at, pick, paired, testOf, fromOf, EdgeFits, EdgesFit};
 ghost use Rattle.reach.specs.Columns.{groupOf, columnOf, Pulled, Held, Apart, Pivoted, Joined, Columns};
 
 // The states with a step into the mask, by the 16 columns from a place on. Most automata have few states: then four columns are enough.
@@ -66,15 +66,15 @@ pub(crate) fn one_bit(s: u16) -> u16
     1 << s
 }
 
-// The 48 columns from a place on, at an entry with this word; the other places keep their content.
-pub(crate) fn make(edges: &[u32], word: u64, place: usize, steps: &mut [u16])
+// The 48 columns from a place on, at entry i; the other places keep their content.
+pub(crate) fn make(edges: &[u32], words: &[u64], i: usize, place: usize, steps: &mut [u16])
     requires { ⌜ EdgesFit (now edges) ⌝ }
-    requires { ⌜ place + 48 ≤ length (now steps) ⌝ }
+    requires { ⌜ (i < length (paired (now words))) × (place + 48 ≤ length (now steps)) ⌝ }
     ensures { λ _. ⌜ Apart place (place + 48) (now (steps .entry)) (now (steps .exit)) ⌝ }
-    ensures { λ _. ⌜ Columns (now (edges .entry)) word (now (steps .exit)) place ⌝ }
+    ensures { λ _. ⌜ Columns (now (edges .entry)) (at (paired (now (words .entry))) i) (now (steps .exit)) place ⌝ }
 {
     clear(place, steps);
-    add_edges(edges, word, place, steps);
+    add_edges(edges, words, i, place, steps);
     join(place, steps);
 }
 
@@ -92,30 +92,30 @@ fn clear(place: usize, steps: &mut [u16])
 }
 
 // The steps of all edges at the entry, where there were none.
-fn add_edges(edges: &[u32], word: u64, place: usize, steps: &mut [u16])
+fn add_edges(edges: &[u32], words: &[u64], i: usize, place: usize, steps: &mut [u16])
     requires { ⌜ EdgesFit (now edges) ⌝ }
-    requires { ⌜ place + 48 ≤ length (now steps) ⌝ }
+    requires { ⌜ (i < length (paired (now words))) × (place + 48 ≤ length (now steps)) ⌝ }
     requires { ⌜ ((c : ℕ) → c < 48 → at (now steps) (place + c) ≡ 0) ⌝ }
     ensures { λ _. ⌜ Apart place (place + 48) (now (steps .entry)) (now (steps .exit)) ⌝ }
-    ensures { λ _. ⌜ Held (now (edges .entry)) word (length (now (edges .entry))) (now (steps .exit)) place ⌝ }
+    ensures { λ _. ⌜ Held (now (edges .entry)) (at (paired (now (words .entry))) i) (length (now (edges .entry))) (now (steps .exit)) place ⌝ }
 {
     let mut e: usize = 0;
     while e < edges.len() {
-        add_edge(edges[e], word, place, steps);
+        add_edge(edges[e], words, i, place, steps);
         e += 1;
     }
 }
 
 // The step of edge p, where its node holds.
-fn add_edge(p: u32, word: u64, place: usize, steps: &mut [u16])
+fn add_edge(p: u32, words: &[u64], i: usize, place: usize, steps: &mut [u16])
     requires { ⌜ EdgeFits p ⌝ }
-    requires { ⌜ place + 48 ≤ length (now steps) ⌝ }
+    requires { ⌜ (i < length (paired (now words))) × (place + 48 ≤ length (now steps)) ⌝ }
     ensures { λ _. ⌜ now (steps .exit) ≡ set (now (steps .entry)) (place + columnOf p)
-        (pick (bitOf word (testOf p)) (bitOr (at (now (steps .entry)) (place + columnOf p)) (2 ^ fromOf p)) (at (now (steps .entry)) (place + columnOf p))) ⌝ }
+        (pick (bitOf (at (paired (now (words .entry))) i) (testOf p)) (bitOr (at (now (steps .entry)) (place + columnOf p)) (2 ^ fromOf p)) (at (now (steps .entry)) (place + columnOf p))) ⌝ }
 {
     let c = place + column_of(p);
     let from = one_bit((p % 256) as u16);
-    let on = verdict(word, Node((p / 65536 % 256) as u8));
+    let on = verdict(words, i, Node((p / 65536 % 256) as u8));
     let old = steps[c];
     steps[c] = chosen(on, old | from, old);
 }

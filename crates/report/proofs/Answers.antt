@@ -1,5 +1,5 @@
 -- The answers of the calls, case by case, as the outcomes that the page is defined over.
-use Prim.Native.Nat.{ℕ, zero, suc, _≤_}
+use Prim.Native.Nat.{ℕ, zero, suc, _*_, _≤_}
 use mathlib.Core.Path.{_≡_, refl, ap, sym, _∙_}
 use mathlib.Core.Bool.{Bool}
 use mathlib.Core.List.{List, _++_}
@@ -40,12 +40,12 @@ refused-line rule n rest zero new z = absurd (z refl)
 refused-line rule n rest (suc q) new z = refl
 
 module _ (given : Bool) (S : Sheet) (log buffer : List ℕ) where
-  -- the answer Held: there are as many places as entries, and the page goes on with the verdicts
-  pub held-room : (a : Judged) (h : ℕ) (new : List ℕ) → a ≡ judged.Held h → wholeOf a new ≡ wholeOutcome given S log buffer → length log ≤ length buffer
-  held-room a h new r e = leb-true (length log) (length buffer) (whole-yes given S log buffer (ap (λ (w : Whole). w .number) (sym e ∙ ap (λ (x : Judged). wholeOf x new) r)) .2)
+  -- the answer Held: there are two places for each entry, and the page goes on with the verdicts
+  pub held-room : (a : Judged) (h : ℕ) (new : List ℕ) → a ≡ judged.Held h → wholeOf a new ≡ wholeOutcome given S log buffer → 2 * length log ≤ length buffer
+  held-room a h new r e = leb-true (2 * length log) (length buffer) (whole-yes given S log buffer (ap (λ (w : Whole). w .number) (sym e ∙ ap (λ (x : Judged). wholeOf x new) r)) .2)
 
   pub held-page : (rule n : ℕ) (rest : List ℕ) (a : Judged) (h : ℕ) (new : List ℕ) → a ≡ judged.Held h → wholeOf a new ≡ wholeOutcome given S log buffer
-      → verdictLines rule h (take n new) ++ rest ≡ judgedPage rule n rest (wholeOutcome given S log buffer)
+      → verdictLines rule h (take (2 * n) new) ++ rest ≡ judgedPage rule n rest (wholeOutcome given S log buffer)
   unfolding judgedPage
   held-page rule n rest a h new r e = ap (judgedPage rule n rest) (ap (λ (x : Judged). wholeOf x new) (sym r) ∙ e)
 

@@ -1,5 +1,5 @@
 -- Every page is at most 40,000 bytes long: at most 512 lines of 6 bytes, a line for the rule, and a walk of at most 8,191 edges of at most 4 bytes.
-use Prim.Native.Nat.{ℕ, zero, suc, _≤_}
+use Prim.Native.Nat.{ℕ, zero, suc, _*_, _≤_}
 use mathlib.Core.Path.{_≡_, refl, ap, sym, _∙_}
 use mathlib.Core.Bool.{Bool, true, false, cond, _||_}
 use mathlib.Core.List.{List, [], _∷_, _++_}
@@ -25,7 +25,7 @@ use Rattle.walk.proofs.Questions.{outcome-0, outcome-most}
 use Rattle.joblog.specs.Log.{LogRead, entries, refused, readLog}
 use Rattle.joblog.proofs.Answers.{Sound, sound-log}
 use Rattle.lines.specs.Lines.{refusalLine, verdictLines, walkLine, noWalkLine}
-use Rattle.report.specs.Page.{walkLimit, pageLimit, ruleOf, refusedWalk, shownLine, walkPage, judgedPage, tablePage, logPage, sheetPage, pageOf, Printed, printedOf, placed, pageOutcome}
+use Rattle.report.specs.Page.{lentWords, walkLimit, pageLimit, ruleOf, refusedWalk, shownLine, walkPage, judgedPage, tablePage, logPage, sheetPage, pageOf, Printed, printedOf, placed, pageOutcome}
 use Rattle.report.specs.declared.PageAnswer.{PageAnswer}
 use Rattle.lines.proofs.Lengths.{refusal-length, verdicts-length, walk-length}
 use Rattle.report.proofs.Placed.{placed-fits, placed-count}
@@ -59,7 +59,7 @@ walk-page-length t log f some =
     rw e (walk-length es (omega (arith, room, length-replicate {A = ℕ} walkLimit 0)) (edges-small t log (ruleOf t) 0 f (omega arith))))
     (outcome-most S log (ruleOf t) 0 (replicate walkLimit 0) (wellFormed t))
 
-judged-length : (n held rule m : ℕ) (buffer rest : List ℕ) → (n ≡ 0 → length (verdictLines rule held (take m buffer) ++ rest) ≤ pageLimit) → n ≤ 33
+judged-length : (n held rule m : ℕ) (buffer rest : List ℕ) → (n ≡ 0 → length (verdictLines rule held (take (2 * m) buffer) ++ rest) ≤ pageLimit) → n ≤ 33
     → length (judgedPage rule m rest (record { number = n; held = held; buffer = buffer })) ≤ pageLimit
 unfolding judgedPage
 judged-length zero held rule m buffer rest h l = h refl
@@ -68,26 +68,26 @@ judged-length (suc q) held rule m buffer rest h l = omega (arith, refusal-length
 whole-number-le : (given : Bool) (log buffer : List ℕ) → wholeNumber given log buffer ≤ 33
 unfolding wholeNumber
 whole-number-le given log buffer =
-    first-le 33 ((given, 31) ∷ (logFits log, 32) ∷ (leb (length log) (length buffer), 33) ∷ []) (omega arith, (omega arith, (omega arith, tt)))
+    first-le 33 ((given, 31) ∷ (logFits log, 32) ∷ (leb (2 * length log) (length buffer), 33) ∷ []) (omega arith, (omega arith, (omega arith, tt)))
 
 table-page-length : (t : Table) (log : List ℕ) → length (tablePage t log) ≤ pageLimit
 unfolding tablePage
 table-page-length t log =
     let S = sheetOf t in
-    let o = wholeOutcome (wellFormed t) S log (replicate entryLimit 0) in
+    let o = wholeOutcome (wellFormed t) S log lentWords in
     judged-length (o .number) (o .held) (ruleOf t) (length log) (o .buffer) (walkPage t log)
     (λ z.
-    let y = whole-yes (wellFormed t) S log (replicate entryLimit 0) z in
+    let y = whole-yes (wellFormed t) S log lentWords z in
     let some : 1 ≤ length log = leb-true 1 (length log) (and-left (leb 1 (length log)) (leb (length log) entryLimit) (y .1)) in
     let few : length log ≤ entryLimit = leb-true (length log) entryLimit (and-right (leb 1 (length log)) (leb (length log) entryLimit) (y .1)) in
-    let v = take (length log) (o .buffer) in
+    let v = take (2 * length log) (o .buffer) in
     omega (
       arith,
       length-append (verdictLines (ruleOf t) (o .held) v) (walkPage t log),
-      verdicts-length (ruleOf t) (o .held) v (omega (arith, whole-held (wellFormed t) S log (replicate entryLimit 0) z, held-le S log)) (omega (arith, length-take (length log) (o .buffer))),
+      verdicts-length (ruleOf t) (o .held) v (omega (arith, whole-held (wellFormed t) S log lentWords z, held-le S log)) (omega (arith, length-take (2 * length log) (o .buffer))),
       walk-page-length t log (table-facts t (y .0)) some,
     ))
-    (omega (arith, whole-number (wellFormed t) S log (replicate entryLimit 0), whole-number-le (wellFormed t) log (replicate entryLimit 0)))
+    (omega (arith, whole-number (wellFormed t) S log lentWords, whole-number-le (wellFormed t) log lentWords))
 
 log-page-length : (t : Table) (r : LogRead) → Sound entryLimit r → length (logPage t r) ≤ pageLimit
 log-page-length t (entries log) s = table-page-length t log

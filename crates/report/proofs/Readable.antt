@@ -1,6 +1,6 @@
 -- THE PAGE OF A SHEET AND A LOG THAT WERE BOTH READ IS NO REFUSAL: the verdicts, the count held, and the rule's walk or `walk,none`.
 -- Of the questions that are left, 31 to 33, 36, 37 and 40 get a yes; 38 and 39 are printed as `walk,none`.
-use Prim.Native.Nat.{ℕ, zero, suc, _≤_}
+use Prim.Native.Nat.{ℕ, zero, suc, _*_, _≤_}
 use mathlib.Core.Path.{_≡_, refl, ap, sym, _∙_, subst}
 use mathlib.Core.Logic.{_⊎_, inl, inr}
 use mathlib.Core.Bool.{Bool, true, false, false≢true}
@@ -27,7 +27,7 @@ use Rattle.joblog.proofs.Answers.{Accepted, Sound, sound-log}
 use Rattle.walk.proofs.Questions.{shownBy, byRoom, refusal, outcome-38, outcome-walk}
 use Rattle.walk.proofs.Shown.{short}
 use Rattle.lines.specs.Lines.{verdictLines, walkLine, noWalkLine}
-use Rattle.report.specs.Page.{walkLimit, ruleOf, refusedWalk, shownLine, walkPage, judgedPage, tablePage, logPage, pageOf}
+use Rattle.report.specs.Page.{walkLimit, ruleOf, lentWords, refusedWalk, shownLine, walkPage, judgedPage, tablePage, logPage, pageOf}
 use Rattle.report.specs.Readable.{walkOrNone, readPage}
 use Rattle.report.proofs.Accepted.{sheet-accepted}
 use Rattle.report.proofs.Pages.{sheet-read}
@@ -36,7 +36,7 @@ all-yes : (a b c : Bool) → a ≡ true → b ≡ true → c ≡ true → firstN
 all-yes a b c p q r = rw (p, q, r)
 
 -- an accepted judging
-judged-yes : (rule n : ℕ) (rest : List ℕ) (q h : ℕ) (b : List ℕ) → q ≡ 0 → judgedPage rule n rest (record { number = q; held = h; buffer = b }) ≡ verdictLines rule h (take n b) ++ rest
+judged-yes : (rule n : ℕ) (rest : List ℕ) (q h : ℕ) (b : List ℕ) → q ≡ 0 → judgedPage rule n rest (record { number = q; held = h; buffer = b }) ≡ verdictLines rule h (take (2 * n) b) ++ rest
 unfolding judgedPage
 judged-yes rule n rest zero h b z = refl
 judged-yes rule n rest (suc q) h b z = absurd (omega arith)
@@ -74,15 +74,15 @@ module _ (t : Table) (log : List ℕ) (given : wellFormed t ≡ true) (some-entr
   fits : logFits log ≡ true
   fits = and-intro (le-leb 1 (length log) some-entry) (le-leb (length log) entryLimit few)
 
-  judged : wholeOutcome (wellFormed t) S log (replicate entryLimit 0) .number ≡ 0
+  judged : wholeOutcome (wellFormed t) S log lentWords .number ≡ 0
   unfolding wholeNumber
   judged =
-      whole-number (wellFormed t) S log (replicate entryLimit 0)
-      ∙ all-yes (wellFormed t) (logFits log) (leb (length log) (length (replicate {A = ℕ} entryLimit 0))) given fits (le-leb (length log) (length (replicate {A = ℕ} entryLimit 0)) (omega (arith, length-replicate {A = ℕ} entryLimit 0)))
+      whole-number (wellFormed t) S log lentWords
+      ∙ all-yes (wellFormed t) (logFits log) (leb (2 * length log) (length lentWords)) given fits (le-leb (2 * length log) (length lentWords) (omega (arith, length-replicate {A = ℕ} (2 * entryLimit) 0)))
 
   -- the words that the page reads are those of the log
-  words : take (length log) (wholeOutcome (wellFormed t) S log (replicate entryLimit 0) .buffer) ≡ logWords S log
-  words = whole-words (wellFormed t) S log (replicate entryLimit 0) judged
+  words : take (2 * length log) (wholeOutcome (wellFormed t) S log lentWords .buffer) ≡ logWords S log
+  words = whole-words (wellFormed t) S log lentWords judged
 
   rule-there : ltb (ruleOf t) (S .nodes) ≡ true
   unfolding sheetOf
@@ -115,9 +115,9 @@ module _ (t : Table) (log : List ℕ) (given : wellFormed t ≡ true) (some-entr
   pub table-page : tablePage t log ≡ readPage t log
   unfolding tablePage readPage
   table-page =
-      let o = wholeOutcome (wellFormed t) S log (replicate entryLimit 0) in
+      let o = wholeOutcome (wellFormed t) S log lentWords in
       judged-yes (ruleOf t) (length log) (walkPage t log) (o .number) (o .held) (o .buffer) judged
-      ∙ ap (λ (h : ℕ). verdictLines (ruleOf t) h (take (length log) (o .buffer)) ++ walkPage t log) (whole-held (wellFormed t) S log (replicate entryLimit 0) judged)
+      ∙ ap (λ (h : ℕ). verdictLines (ruleOf t) h (take (2 * length log) (o .buffer)) ++ walkPage t log) (whole-held (wellFormed t) S log lentWords judged)
       ∙ ap (λ (ws : List ℕ). verdictLines (ruleOf t) (heldIn S log) ws ++ walkPage t log) words
       ∙ ap (λ (l : List ℕ). verdictLines (ruleOf t) (heldIn S log) (logWords S log) ++ l) walk-page
 

@@ -3,7 +3,7 @@ use mathlib.Core.Path.{refl}
 use Rattle.text.specs.Text.{pieces, lines, number, numberIn, allDigits, valueOf}
 use Rattle.aldlf.specs.Sheet.{sheetOf}
 use Rattle.aldlf.specs.Verdict.{judge}
-use Rattle.aldlf.specs.Outcomes.{partWords, heldIn, wholeNumber, wholeOutcome}
+use Rattle.aldlf.specs.Outcomes.{partVerdicts, heldIn, wholeNumber, wholeOutcome}
 use Rattle.aldlf.specs.Walks.{walkIn, walkOf, walkNumber, walkOutcome}
 use Rattle.sheet.specs.Questions as sheet
 use Rattle.sheet.specs.Given.{nodeFits, edgeFits, headFits, edgesFit, usedFits, nodesFit, automataFit, nodesEnd, automataEnd, edgesEnd, wellFormed}
@@ -14,7 +14,7 @@ use Rattle.report.specs.Page.{refusedWalk, shownLine, walkPage, judgedPa
 use Rattle.report.specs.Examples.{AllPrint, examples, AllAnswer, lendings}
 
 pub all-print : AllPrint examples
-unfolding pieces lines number numberIn allDigits valueOf sheetOf judge partWords heldIn wholeNumber wholeOutcome walkIn walkOf walkNumber walkOutcome sheet.parsed sheet.knownLine sheet.allNumbers sheet.roomLeft sheet.belongs sheet.inRange sheet.newlyAccepting sheet.plainFrom sheet.plainStep sheet.question sheet.withNode sheet.withAutomaton sheet.withAccepting sheet.withEdge sheet.withLine sheet.added sheet.someEdge sheet.each sheet.whole sheet.finish sheet.readLines sheet.readSheet nodeFits edgeFits headFits edgesFit usedFits nodesFit automataFit nodesEnd automataEnd edgesEnd wellFormed log.allBelow log.rising log.wordOf log.factsOf log.readLines log.readLog digitsOf decimal refusalLine entryLine entriesBelow ruleLine verdictLines edgesBelow walkLine noWalkLine refusedWalk shownLine walkPage judgedPage tablePage sheetPage pageOf
+unfolding pieces lines number numberIn allDigits valueOf sheetOf judge partVerdicts heldIn wholeNumber wholeOutcome walkIn walkOf walkNumber walkOutcome sheet.parsed sheet.knownLine sheet.allNumbers sheet.roomLeft sheet.belongs sheet.inRange sheet.newlyAccepting sheet.plainFrom sheet.plainStep sheet.question sheet.withNode sheet.withAutomaton sheet.withAccepting sheet.withEdge sheet.withLine sheet.added sheet.someEdge sheet.each sheet.whole sheet.finish sheet.readLines sheet.readSheet nodeFits edgeFits headFits edgesFit usedFits nodesFit automataFit nodesEnd automataEnd edgesEnd wellFormed log.allBelow log.rising log.wordOf log.factsOf log.readLines log.readLog digitsOf decimal refusalLine entryLine entriesBelow ruleLine verdictLines edgesBelow walkLine noWalkLine refusedWalk shownLine walkPage judgedPage tablePage sheetPage pageOf
 all-print = (refl, (refl, (refl, (refl, (refl, (refl, tt))))))
 
 pub all-answer : AllAnswer lendings

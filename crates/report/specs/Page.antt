@@ -1,5 +1,5 @@
 -- The printed page of document 01, over the defined outcomes of the calls: the sheet is read, then the log, then the log is judged, then the rule's walk is shown.
-use Prim.Native.Nat.{ℕ, zero, suc, _-_}
+use Prim.Native.Nat.{ℕ, zero, suc, _*_, _-_}
 use mathlib.Core.Bool.{cond, _||_}
 use mathlib.Core.List.{List, _++_}
 use lib.ListN.{length, take, drop, replicate}
@@ -44,18 +44,22 @@ shownLine s =
 unfoldable pub walkPage : Table → List ℕ → List ℕ
 walkPage t log = shownLine (walkOutcome (wellFormed t) (sheetOf t) log (ruleOf t) 0 (replicate walkLimit 0))
 
+-- the verdict words that a page lends: enough for every log, all 0
+abbrev pub lentWords : List ℕ
+lentWords = replicate (2 * entryLimit) 0
+
 -- a judged log of n entries: the verdict lines, then `rest`
 unfoldable pub judgedPage : (rule n : ℕ) → (rest : List ℕ) → Whole → List ℕ
 judgedPage rule n rest w =
     elim (w .number) [
-      | zero ↦ verdictLines rule (w .held) (take n (w .buffer)) ++ rest
+      | zero ↦ verdictLines rule (w .held) (take (2 * n) (w .buffer)) ++ rest
       | suc q ↦ refusalLine (suc q) 0
     ]
 
 -- the page of a table and a log
 unfoldable pub tablePage : Table → List ℕ → List ℕ
 tablePage t log =
-    judgedPage (ruleOf t) (length log) (walkPage t log) (wholeOutcome (wellFormed t) (sheetOf t) log (replicate entryLimit 0))
+    judgedPage (ruleOf t) (length log) (walkPage t log) (wholeOutcome (wellFormed t) (sheetOf t) log lentWords)
 
 -- the page of a table and a log as read
 abbrev pub logPage : Table → LogRead → List ℕ

@@ -128,13 +128,13 @@ fn put_table_page(out: &mut [u8], numbers: &[u32], log: &[u32]) -> usize
     requires { ⌜ ((t : Table) × Packed t (now numbers)) ⌝ }
     ensures { λ r. ⌜ ((t : Table) → Packed t (now (numbers .entry)) → Appends (tablePage t (now (log .entry))) (now (out .entry)) 0 (now (out .exit)) r) ⌝ }
 {
-    let mut verdicts = [0u64; aldlf::ENTRIES];
+    let mut verdicts = [0u64; 2 * aldlf::ENTRIES];
     let n = log.len();
     let j = judge_lent(numbers, log, &mut verdicts);
     match j {
         Judged::Held(held) => {
             let rule = rule_of(numbers);
-            let next = put_verdicts(out, 0, &verdicts[..n], rule, held);
+            let next = put_verdicts(out, 0, &verdicts[..2 * n], rule, held);
             put_walk_page(out, next, numbers, log)
         }
         Judged::Refused(number) => put_refusal(out, 0, number, 0),

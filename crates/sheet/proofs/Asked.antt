@@ -11,7 +11,7 @@ use lib.ListN.{length, getD, drop, set, replicate, length-set, List·getD-eq-def
 use lib.Seq.{drop-cons}
 use lib.Dec.{eqb}
 use borrow.Author.Tests.{ne-eqb, not-true, not-false}
-use Rattle.aldlf.specs.Constants.{letterT, letterF, letterP, letterN, letterA, letterO}
+use Rattle.aldlf.specs.Constants.{nodeLimit, letterT, letterF, letterP, letterN, letterA, letterO}
 use Rattle.aldlf.specs.Sheet.{bit, noLine}
 use Rattle.aldlf.specs.declared.NodeLine.{NodeLine}
 use Rattle.sheet.specs.declared.line.Line.{Line}
@@ -70,8 +70,8 @@ unfolding plainFrom
 from-length [] i p = refl
 from-length (x ∷ xs) i p = from-length xs (i + 1) (set p i (plainNode p x)) ∙ length-set p i (plainNode p x)
 
-pub plains-length : (xs : List NodeLine) → length (plains xs) ≡ 64
-plains-length xs = from-length xs 0 (replicate 64 false)
+pub plains-length : (xs : List NodeLine) → length (plains xs) ≡ nodeLimit
+plains-length xs = from-length xs 0 (replicate nodeLimit false)
 
 -- the question that decides
 module _ (r : Reading) (l : Line) where

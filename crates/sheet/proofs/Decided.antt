@@ -8,7 +8,7 @@ use native.Mathlib.Omega.{arith}
 use lib.ListN.{length, getD, List·getD-eq-default}
 use lib.Dec.{eqb, ltb, leb}
 use borrow.Author.Tests.{eq-eqb, ne-eqb, lt-ltb, le-ltb, le-leb, ltb-true, leb-true, eqb-true}
-use Rattle.aldlf.specs.Constants.{stateLimit, letterT, letterF, letterP, letterN, letterA, letterO, letterD, letterB}
+use Rattle.aldlf.specs.Constants.{nodeLimit, stateLimit, letterT, letterF, letterP, letterN, letterA, letterO, letterD, letterB}
 use Rattle.aldlf.specs.Sheet.{noLine, noEdge, noAutomaton}
 use Rattle.aldlf.specs.declared.NodeLine.{NodeLine}
 use Rattle.aldlf.specs.declared.Edge.{Edge}
@@ -240,9 +240,9 @@ module _ (t : Table) where
       let x₆ = both L C (x₅ .0) in
       let y₁ = both (N && M) E (x₃ .1) in
       let y₂ = both N M (y₁ .0) in
-      let l₁ = both (eqb (length (t .nodes)) 64 && eqb (length (t .automata)) 16) (eqb (length (t .edges)) 256) (x₆ .0) in
-      let l₂ = both (eqb (length (t .nodes)) 64) (eqb (length (t .automata)) 16) (l₁ .0) in
-      let nodes-long = eqb-true (length (t .nodes)) 64 (l₂ .0) in
+      let l₁ = both (eqb (length (t .nodes)) nodeLimit && eqb (length (t .automata)) 16) (eqb (length (t .edges)) 256) (x₆ .0) in
+      let l₂ = both (eqb (length (t .nodes)) nodeLimit) (eqb (length (t .automata)) 16) (l₁ .0) in
+      let nodes-long = eqb-true (length (t .nodes)) nodeLimit (l₂ .0) in
       let automata-long = eqb-true (length (t .automata)) 16 (l₂ .1) in
       let edges-long = eqb-true (length (t .edges)) 256 (l₁ .1) in
       let k = counts-fit (t .used) (x₆ .1) in
@@ -259,7 +259,7 @@ module _ (t : Table) where
               automata≤ = k .automata≤;
               edges≤ = k .edges≤;
               nodes = λ i u. node-yes t i (node t i) (kindOf (node t i .kind)) (each-at (nodeOk t) (t .used .nodes) i (x₅ .1) u);
-              no-nodes = unused (t .nodes) noLine (t .used .nodes) 64 isNoLine nodes-long no-line (y₂ .0);
+              no-nodes = unused (t .nodes) noLine (t .used .nodes) nodeLimit isNoLine nodes-long no-line (y₂ .0);
               automata = λ m u. heads m u .ok;
               no-automata = unused (t .automata) noAutomaton (t .used .automata) 16 isNoAutomaton automata-long no-automaton (y₂ .1);
               edges = λ m u e lo hi.
@@ -282,8 +282,8 @@ module _ (t : Table) where
       let n : each (nodeOk t) (t .used .nodes) ≡ true = each-all (nodeOk t) (t .used .nodes) (λ i h. node-no t i (node t i) (g .nodes i h)) in
       let a : each (automatonOk t) (t .used .automata) ≡ true = each-all (automatonOk t) (t .used .automata) (λ m k.
       automaton-no t m (auto t m) (record { ok = g .automata m k; end = edges-end t false g m k; low = g .outside refl m k; es = λ j u. g .edges m k (auto t m .first + j) (omega arith) (omega arith) })) in
-      let e₁ : N ≡ true = cleared (t .nodes) noLine (t .used .nodes) 64 isNoLine refl (g .no-nodes) in
+      let e₁ : N ≡ true = cleared (t .nodes) noLine (t .used .nodes) nodeLimit isNoLine refl (g .no-nodes) in
       let e₂ : M ≡ true = cleared (t .automata) noAutomaton (t .used .automata) 16 isNoAutomaton refl (g .no-automata) in
       let e₃ : E ≡ true = cleared (t .edges) noEdge (t .used .edges) 256 isNoEdge refl (g .no-edges) in
       let o = eq-eqb (t .used .edges) (edgesBefore (t .automata) (t .used .automata)) (sym (g .total)) in
-      rw (l, le-leb 1 (t .used .nodes) (w .some), le-leb (t .used .nodes) 64 (g .nodes≤), le-leb (t .used .automata) 16 (g .automata≤), le-leb (t .used .edges) 256 (g .edges≤), n, a, e₁, e₂, e₃, o) (le-leb (t .used .automata) (wholeOf t) (w .all-used))
+      rw (l, le-leb 1 (t .used .nodes) (w .some), le-leb (t .used .nodes) nodeLimit (g .nodes≤), le-leb (t .used .automata) 16 (g .automata≤), le-leb (t .used .edges) 256 (g .edges≤), n, a, e₁, e₂, e₃, o) (le-leb (t .used .automata) (wholeOf t) (w .all-used))

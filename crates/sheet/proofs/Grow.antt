@@ -9,7 +9,7 @@ use native.Mathlib.Omega.{arith}
 use lib.ListN.{getD, set, replicate, length-set}
 use lib.Seq.{getD-set-same, getD-set-other}
 use lib.Pow.{pow-pos}
-use Rattle.aldlf.specs.Constants.{letterM, letterG, letterE}
+use Rattle.aldlf.specs.Constants.{nodeLimit, letterM, letterG, letterE}
 use Rattle.aldlf.specs.Sheet.{noLine, noEdge, noAutomaton}
 use Rattle.aldlf.specs.declared.NodeLine.{NodeLine}
 use Rattle.aldlf.specs.declared.Edge.{Edge}
@@ -76,7 +76,7 @@ module _ (r : Reading) (l : Line) (g : Grown (r .table) (r .inside)) (p : Passed
               dir< = q .dir<;
               test< = q .test<;
               to< = q .to<;
-              plainTest = λ d. plain-set (t .nodes) n (edge t e .test .0) nodeOf (replicate 64 false) (omega (arith, q .test<, o .before≤)) (omega (arith, g .nodes-long)) ∙ q .plainTest d;
+              plainTest = λ d. plain-set (t .nodes) n (edge t e .test .0) nodeOf (replicate nodeLimit false) (omega (arith, q .test<, o .before≤)) (omega (arith, g .nodes-long)) ∙ q .plainTest d;
             };
         no-edges = g .no-edges;
         total = g .total;

@@ -7,7 +7,7 @@ use mathlib.Core.Logic.{⊎-elim}
 use native.Mathlib.Nat.{eq-or-lt-of-le}
 use native.Mathlib.Omega.{arith}
 use lib.ListN.{length, getD}
-use Rattle.aldlf.specs.Constants.{letterT, letterF, letterP, letterN, letterA, letterO, letterD, letterB}
+use Rattle.aldlf.specs.Constants.{nodeLimit, letterT, letterF, letterP, letterN, letterA, letterO, letterD, letterB}
 use Rattle.aldlf.specs.Sheet.{noLine, noEdge, noAutomaton}
 use Rattle.aldlf.specs.declared.NodeLine.{NodeLine}
 use Rattle.aldlf.specs.declared.Edge.{Edge}
@@ -53,10 +53,10 @@ abbrev pub edge : Table → ℕ → Edge
 edge t e = getD (t .edges) e noEdge
 
 pub record Grown (t : Table) (b : Bool) : Type 0 where
-  pub nodes-long : length (t .nodes) ≡ 64
+  pub nodes-long : length (t .nodes) ≡ nodeLimit
   pub automata-long : length (t .automata) ≡ 16
   pub edges-long : length (t .edges) ≡ 256
-  pub nodes≤ : t .used .nodes ≤ 64
+  pub nodes≤ : t .used .nodes ≤ nodeLimit
   pub automata≤ : t .used .automata ≤ 16
   pub edges≤ : t .used .edges ≤ 256
   pub nodes : (i : ℕ) → i < t .used .nodes → NodeOk (t .used .automata) (t .automata) i (node t i)

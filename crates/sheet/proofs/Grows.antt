@@ -6,7 +6,7 @@ use mathlib.Core.Logic.{_⊎_, inl, inr, ⊎-elim}
 use native.Mathlib.Omega.{arith}
 use lib.ListN.{getD, replicate}
 use borrow.Author.Tests.{ne-eqb}
-use Rattle.aldlf.specs.Constants.{letterM, letterG, letterE}
+use Rattle.aldlf.specs.Constants.{nodeLimit, letterM, letterG, letterE}
 use Rattle.aldlf.specs.Sheet.{noLine, noEdge, noAutomaton}
 use Rattle.aldlf.specs.declared.Edge.{Edge}
 use Rattle.sheet.specs.declared.line.Line.{Line}
@@ -94,7 +94,7 @@ start-grown =
       automata≤ = omega arith;
       edges≤ = omega arith;
       nodes = λ i w. absurd (omega arith);
-      no-nodes = λ i w. none-at noLine 64 i;
+      no-nodes = λ i w. none-at noLine nodeLimit i;
       automata = λ m w. absurd (omega arith);
       no-automata = λ m w. none-at noAutomaton 16 m;
       edges = λ m w. absurd (omega arith);

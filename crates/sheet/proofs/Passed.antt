@@ -8,7 +8,7 @@ use native.Mathlib.Omega.{arith}
 use lib.ListN.{length, getD}
 use lib.Dec.{ltb, leb}
 use borrow.Author.Tests.{ne-eqb, le-ltb, ltb-true, leb-true, eqb-true, not-true}
-use Rattle.aldlf.specs.Constants.{letterP, letterN, letterA, letterO, letterD, letterB, letterM, letterG, letterE}
+use Rattle.aldlf.specs.Constants.{nodeLimit, letterP, letterN, letterA, letterO, letterD, letterB, letterM, letterG, letterE}
 use Rattle.aldlf.specs.Sheet.{bit}
 use Rattle.aldlf.specs.declared.Table.{Table}
 use Rattle.text.specs.Text.{number}
@@ -127,10 +127,10 @@ module _ (r : Reading) (l : Line) (p : Passed r l) where
   unfolding knownLine
   said-count = eqb-true (l .count) (arity (l .letter)) (p .p3)
 
-  pub said-room : (l .letter ≡ letterM → ⊥) → (l .letter ≡ letterG → ⊥) → (l .letter ≡ letterE → ⊥) → r .table .used .nodes < 64
+  pub said-room : (l .letter ≡ letterM → ⊥) → (l .letter ≡ letterG → ⊥) → (l .letter ≡ letterE → ⊥) → r .table .used .nodes < nodeLimit
   unfolding roomLeft
   said-room m g e =
-      let h : ltb (r .table .used .nodes) 64 ≡ true = rw (ne-eqb (l .letter) letterM m, ne-eqb (l .letter) letterG g, ne-eqb (l .letter) letterE e) at (p .p5) in
+      let h : ltb (r .table .used .nodes) nodeLimit ≡ true = rw (ne-eqb (l .letter) letterM m, ne-eqb (l .letter) letterG g, ne-eqb (l .letter) letterE e) at (p .p5) in
       ltb-true _ _ h
 
   pub said-P : l .letter ≡ letterP → l .a < 32

@@ -8,6 +8,7 @@ use native.Mathlib.Nat.{eq-or-lt-of-le}
 use native.Mathlib.Omega.{arith}
 use lib.ListN.{length, getD, replicate, length-append, length-replicate, getD-replicate}
 use lib.Seq.{ext-getD}
+use Rattle.aldlf.specs.Constants.{nodeLimit}
 use Rattle.aldlf.specs.Sheet.{noLine, noEdge, noAutomaton}
 use Rattle.aldlf.specs.declared.NodeLine.{NodeLine}
 use Rattle.aldlf.specs.declared.Edge.{Edge}
@@ -33,7 +34,7 @@ empty-of : (t : Table) → Grown t false → t .used .nodes ≡ 0 → emptyTable
 empty-of t g z =
     let ac : t .used .automata ≡ 0 = ⊎-elim (λ (e : 0 ≡ t .used .automata). sym e) (λ (k : 0 < t .used .automata). absurd (omega (arith, g .outside refl 0 k))) (eq-or-lt-of-le {n = 0} {m = t .used .automata} (omega arith)) in
     let ec : t .used .edges ≡ 0 = sym (g .total) ∙ ap (edgesBefore (t .automata)) ac in
-    let e1 = all-same noLine (t .nodes) 64 (g .nodes-long) (λ i. g .no-nodes i (omega arith)) in
+    let e1 = all-same noLine (t .nodes) nodeLimit (g .nodes-long) (λ i. g .no-nodes i (omega arith)) in
     let e2 = all-same noAutomaton (t .automata) 16 (g .automata-long) (λ i. g .no-automata i (omega arith)) in
     let e3 = all-same noEdge (t .edges) 256 (g .edges-long) (λ i. g .no-edges i (omega arith)) in
     ap (λ (ns : List NodeLine). mk ns (replicate 16 noAutomaton) (replicate 256 noEdge) 0 0 0) (sym e1)

@@ -9,7 +9,7 @@ use native.Mathlib.Omega.{arith}
 use lib.ListN.{length, getD, set, length-set, length-append}
 use lib.Seq.{getD-set-same, getD-set-other, set-set, set-getD}
 use borrow.Author.Tests.{ne-eqb, lt-ltb}
-use Rattle.aldlf.specs.Constants.{letterE}
+use Rattle.aldlf.specs.Constants.{nodeLimit, letterE}
 use Rattle.aldlf.specs.Sheet.{noEdge, noAutomaton}
 use Rattle.aldlf.specs.declared.NodeLine.{NodeLine}
 use Rattle.aldlf.specs.declared.Edge.{Edge}
@@ -33,7 +33,7 @@ pub edgeLine : Edge → Line
 edgeLine e = record { letter = letterE; count = 4; a = e .from .0; b = e .dir; c = e .test .0; d = e .to .0 }
 
 pub edge-passes : (r : Reading) (e : Edge) → r .inside ≡ true → EdgeOk (r .table .nodes) (last (r .table)) e → last (r .table) .states ≤ 16 → last (r .table) .before ≤ r .table .used .nodes
-    → r .table .used .nodes ≤ 64 → r .table .used .edges < 256 → question r (edgeLine e) ≡ 0
+    → r .table .used .nodes ≤ nodeLimit → r .table .used .edges < 256 → question r (edgeLine e) ≡ 0
 unfolding knownLine allNumbers roomLeft belongs inRange newlyAccepting plainStep edgeLine
 edge-passes r e i k s b n c =
     let t = r .table in
@@ -46,7 +46,7 @@ edge-passes r e i k s b n c =
     refl
     (⊎-elim (λ (z : e .dir ≡ 0). rw z) (λ z. rw (ne-eqb (e .dir) 0 z) (k .plainTest z)) (same (e .dir) 0)))
 
-pub edge-canon : (ns : List NodeLine) (x : Automaton) (e : Edge) → EdgeOk ns x e → x .states ≤ 16 → x .before ≤ 64 → Canon (edgeLine e)
+pub edge-canon : (ns : List NodeLine) (x : Automaton) (e : Edge) → EdgeOk ns x e → x .states ≤ 16 → x .before ≤ nodeLimit → Canon (edgeLine e)
 unfolding edgeLine
 edge-canon ns x e k s n =
     record {

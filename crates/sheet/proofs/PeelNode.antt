@@ -9,7 +9,7 @@ use native.Mathlib.Omega.{arith}
 use lib.ListN.{length, set, replicate, length-set, length-append}
 use lib.Seq.{getD-set-same, getD-set-other, set-set, set-getD}
 use borrow.Author.Tests.{eq-eqb, ne-eqb, lt-ltb}
-use Rattle.aldlf.specs.Constants.{letterM, letterG, letterE}
+use Rattle.aldlf.specs.Constants.{nodeLimit, letterM, letterG, letterE}
 use Rattle.aldlf.specs.Sheet.{noLine}
 use Rattle.aldlf.specs.declared.NodeLine.{NodeLine}
 use Rattle.aldlf.specs.declared.Automaton.{Automaton}
@@ -32,7 +32,7 @@ use Rattle.sheet.proofs.Grown.{NodeOk, node, auto, edge, Grown, mk, okT
 pub nodeLine : NodeLine → Line
 nodeLine x = record { letter = x .kind; count = arity (x .kind); a = x .a; b = x .b; c = 0; d = 0 }
 
-module _ (ac : ℕ) (ms : List Automaton) (i : ℕ) (x : NodeLine) (ha : ac ≤ 16) (hi : i ≤ 64) where
+module _ (ac : ℕ) (ms : List Automaton) (i : ℕ) (x : NodeLine) (ha : ac ≤ 16) (hi : i ≤ nodeLimit) where
   pub apart : NodeOk ac ms i x → (x .kind ≡ letterM → ⊥) × (x .kind ≡ letterG → ⊥) × (x .kind ≡ letterE → ⊥) × (x .kind ≡ comma → ⊥) × (x .kind ≡ lf → ⊥) × (x .kind < 256) × (x .a < 256) × (x .b < 256)
   apart (okT e p q) = omega arith
   apart (okF e p q) = omega arith
@@ -72,7 +72,7 @@ node-range t x (okO e p q) = rw (e, lt-ltb (x .a) (t .used .nodes) p, lt-ltb (x 
 node-range t x (okD e p n q) = rw (e, lt-ltb (x .a) (t .used .automata) p, lt-ltb (x .b) (t .used .nodes) q)
 node-range t x (okB e p n q) = rw (e, lt-ltb (x .a) (t .used .automata) p, lt-ltb (x .b) (t .used .nodes) q)
 
-pub node-passes : (r : Reading) (x : NodeLine) → r .table .used .automata ≤ 16 → r .table .used .nodes < 64 → NodeOk (r .table .used .automata) (r .table .automata) (r .table .used .nodes) x → question r (nodeLine x) ≡ 0
+pub node-passes : (r : Reading) (x : NodeLine) → r .table .used .automata ≤ 16 → r .table .used .nodes < nodeLimit → NodeOk (r .table .used .automata) (r .table .automata) (r .table .used .nodes) x → question r (nodeLine x) ≡ 0
 unfolding knownLine allNumbers roomLeft belongs newlyAccepting plainStep nodeLine
 node-passes r x ha hn k =
     let t = r .table in
@@ -83,7 +83,7 @@ node-passes r x ha hn k =
     sym (question-0 r (nodeLine x)
     (eq-eqb (arity (x .kind)) (arity (x .kind)) refl)
     (rw (lt-ltb (x .a) notNumber (omega arith), lt-ltb (x .b) notNumber (omega arith)))
-    (rw (nM, nG, nE) (lt-ltb (t .used .nodes) 64 hn))
+    (rw (nM, nG, nE) (lt-ltb (t .used .nodes) nodeLimit hn))
     (rw (nG, nE))
     (node-range t x k)
     (rw nG)
@@ -150,7 +150,7 @@ module _ (t : Table) (g : Grown t false) (h : 1 ≤ t .used .nodes) where
               dir< = q .dir<;
               test< = q .test<;
               to< = q .to<;
-              plainTest = λ d. plain-set (t .nodes) k (edge t e .test .0) noLine (replicate 64 false) (omega (arith, q .test<)) (omega (arith, g .nodes-long, g .nodes≤)) ∙ q .plainTest d;
+              plainTest = λ d. plain-set (t .nodes) k (edge t e .test .0) noLine (replicate nodeLimit false) (omega (arith, q .test<)) (omega (arith, g .nodes-long, g .nodes≤)) ∙ q .plainTest d;
             };
         no-edges = g .no-edges;
         total = g .total;
@@ -166,7 +166,7 @@ module _ (t : Table) (g : Grown t false) (h : 1 ≤ t .used .nodes) where
       let ok′ : NodeOk (u .r .table .used .automata) (u .r .table .automata) (u .r .table .used .nodes) (node t k) = rw (u .same) ok in
       let s = apart (t .used .automata) (t .automata) k (node t k) (g .automata≤) (omega (arith, g .nodes≤)) ok in
       let ac′ : u .r .table .used .automata ≤ 16 = rw (u .same) (g .automata≤) in
-      let nc′ : u .r .table .used .nodes < 64 = rw (u .same) (omega (arith, g .nodes≤)) in
+      let nc′ : u .r .table .used .nodes < nodeLimit = rw (u .same) (omega (arith, g .nodes≤)) in
       record {
         ls = u .ls ++ (nodeLine (node t k) ∷ []);
         r = added (u .r) (length (u .ls) + 1) (nodeLine (node t k));

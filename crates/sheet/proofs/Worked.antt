@@ -1,10 +1,10 @@
 -- Sheets worked by hand in document 01, by computation: what they read to, and whether some sheet gives a table.
-use Prim.Native.Nat.{ℕ}
+use Prim.Native.Nat.{ℕ, _-_}
 use mathlib.Core.Path.{_≡_, refl}
 use mathlib.Core.List.{List, [], _∷_}
 use mathlib.Core.Bool.{true, false}
 use lib.ListN.{replicate, set}
-use Rattle.aldlf.specs.Constants.{letterT, letterP, letterD}
+use Rattle.aldlf.specs.Constants.{nodeLimit, letterT, letterP, letterD}
 use Rattle.aldlf.specs.Sheet.{noLine, noEdge, noAutomaton}
 use Rattle.aldlf.specs.declared.Table.{Table}
 use Rattle.text.specs.Text.{pieces, lines, number, numberIn, allDigits, valueOf}
@@ -19,7 +19,7 @@ W = 84 ∷ 10 ∷ 80 ∷ 44 ∷ 49 ∷ 10 ∷ 77 ∷ 44 ∷ 49 ∷ 44 ∷ 48 ∷
 abbrev tableW : Table
 tableW =
     record {
-      nodes = record { kind = letterT; a = 0; b = 0 } ∷ record { kind = letterP; a = 1; b = 0 } ∷ record { kind = letterD; a = 0; b = 1 } ∷ replicate 61 noLine;
+      nodes = record { kind = letterT; a = 0; b = 0 } ∷ record { kind = letterP; a = 1; b = 0 } ∷ record { kind = letterD; a = 0; b = 1 } ∷ replicate (nodeLimit - 3) noLine;
       automata = record { states = 1; start = record { 0 = 0 }; accepting = 1; first = 0; count = 1; before = 2 } ∷ replicate 15 noAutomaton;
       edges = record { from = record { 0 = 0 }; dir = 1; test = record { 0 = 0 }; to = record { 0 = 0 } } ∷ replicate 255 noEdge;
       used = record { nodes = 3; automata = 1; edges = 1 };

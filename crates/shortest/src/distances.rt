@@ -15,6 +15,7 @@ ghost use mathlib.Core.Path.{_≡_};
 ghost use mathlib.Core.List.{List};
 ghost use Prim.Native.Nat.{ℕ, _+_, _*_, _≤_, _<_};
 ghost use lib.ListN.{length};
+ghost use Rattle.reach.specs.Marks.{paired};
 ghost use Rattle.graph.specs.Graph.{at, far};
 ghost use Rattle.graph.specs.Configurations.{graphOf, startOf, reciprocalOf, Ready};
 ghost use Rattle.shortest.specs.Progress.{Progress, Relaxed, zeroIn};
@@ -60,13 +61,13 @@ fn relax_edges(
     dist: &mut [u16],
     queue: &mut [u16],
 ) -> u16
-    requires { ⌜ Ready (now arcs) q (now words) ⌝ }
+    requires { ⌜ Ready (now arcs) q (paired (now words)) ⌝ }
     requires { ⌜ (turn .head < turn .tail) × (turn .reciprocal ≡ reciprocalOf (q .states)) ⌝ }
-    requires { ⌜ ((G : List ℕ) × Progress (graphOf (now arcs) q (now words)) (zeroIn G) (now dist) (now queue) (turn .head) (q .first) (turn .tail)) ⌝ }
+    requires { ⌜ ((G : List ℕ) × Progress (graphOf (now arcs) q (paired (now words))) (zeroIn G) (now dist) (now queue) (turn .head) (q .first) (turn .tail)) ⌝ }
     ensures { λ r. ⌜ turn .head < r ⌝ }
     ensures { λ r. ⌜ ((G : List ℕ) →
-        Progress (graphOf (now (arcs .entry)) q (now (words .entry))) (zeroIn G) (now (dist .entry)) (now (queue .entry)) (turn .head) (q .first) (turn .tail) →
-        Progress (graphOf (now (arcs .entry)) q (now (words .entry))) (zeroIn G) (now (dist .exit)) (now (queue .exit)) (turn .head) (q .first + q .count) r) ⌝ }
+        Progress (graphOf (now (arcs .entry)) q (paired (now (words .entry)))) (zeroIn G) (now (dist .entry)) (now (queue .entry)) (turn .head) (q .first) (turn .tail) →
+        Progress (graphOf (now (arcs .entry)) q (paired (now (words .entry)))) (zeroIn G) (now (dist .exit)) (now (queue .exit)) (turn .head) (q .first + q .count) r) ⌝ }
 {
     let states = q.states as u16;
     let head = turn.head;
@@ -94,10 +95,10 @@ fn spread(
     dist: &mut [u16],
     queue: &mut [u16],
 )
-    requires { ⌜ Ready (now arcs) q (now words) ⌝ }
+    requires { ⌜ Ready (now arcs) q (paired (now words)) ⌝ }
     requires { ⌜ begun .start < length (now dist) ⌝ }
-    requires { ⌜ Progress (graphOf (now arcs) q (now words)) (zeroIn (now dist)) (now dist) (now queue) 0 (q .first) (begun .tail) ⌝ }
-    ensures { λ _. ⌜ Distances (graphOf (now (arcs .entry)) q (now (words .entry))) (zeroIn (now (dist .entry))) (now (dist .exit)) (begun .start) ⌝ }
+    requires { ⌜ Progress (graphOf (now arcs) q (paired (now words))) (zeroIn (now dist)) (now dist) (now queue) 0 (q .first) (begun .tail) ⌝ }
+    ensures { λ _. ⌜ Distances (graphOf (now (arcs .entry)) q (paired (now (words .entry)))) (zeroIn (now (dist .entry))) (now (dist .exit)) (begun .start) ⌝ }
 {
     let start = begun.start as usize;
     let by = reciprocal(q.states as u16);
@@ -119,11 +120,11 @@ fn spread(
 
 // The distance of the query's start to its goals, and of every configuration that is nearer; FAR where there is no walk. No configuration is marked yet.
 pub fn distances(arcs: &[u64], words: &[u64], query: Query, dist: &mut [u16], queue: &mut [u16])
-    requires { ⌜ Ready (now arcs) (query .automaton) (now words) ⌝ }
-    requires { ⌜ Asked query (length (now words)) ⌝ }
-    requires { ⌜ (length (now dist) ≡ length (now words) * query .automaton .states) × (length (now dist) ≤ length (now queue)) ⌝ }
+    requires { ⌜ Ready (now arcs) (query .automaton) (paired (now words)) ⌝ }
+    requires { ⌜ Asked query (length (paired (now words))) ⌝ }
+    requires { ⌜ (length (now dist) ≡ length (paired (now words)) * query .automaton .states) × (length (now dist) ≤ length (now queue)) ⌝ }
     requires { ⌜ ((i : ℕ) → i < length (now dist) → at (now dist) i ≡ far) ⌝ }
-    ensures { λ _. ⌜ Distances (graphOf (now (arcs .entry)) (query .automaton) (now (words .entry))) (GoalAt (now (words .entry)) (query .automaton) (query .goal))
+    ensures { λ _. ⌜ Distances (graphOf (now (arcs .entry)) (query .automaton) (paired (now (words .entry)))) (GoalAt (paired (now (words .entry))) (query .automaton) (query .goal))
         (now (dist .exit)) (startOf (query .automaton) (query .entry .0)) ⌝ }
 {
     let q = query.automaton;

@@ -7,17 +7,18 @@ ghost use Prim.Native.Nat.{ℕ, _+_, _*_, _≤_, _<_};
 ghost use lib.ListN.{length};
 ghost use Rattle.aldlf.specs.Constants.{nodeLimit, stateLimit};
 ghost use Rattle.aldlf.specs.Sheet.{bit};
+ghost use Rattle.reach.specs.Marks.{paired};
 ghost use Rattle.graph.specs.Graph.{at, far};
 ghost use Rattle.shortest.specs.Goals.{goalAt, goalsIn};
 ghost use Rattle.shortest.specs.Progress.{Put, Seeded};
 
-// The states that are goals at an entry with this word: the accepting ones where the node is as wanted, else none.
-fn goals_in(word: u64, accepting: u16, goal: Goal) -> u16
-    requires { ⌜ goal .node .0 < nodeLimit ⌝ }
-    ensures { λ r. ⌜ r ≡ goalsIn word accepting goal ⌝ }
+// The states that are goals at an entry: the accepting ones where the node is as wanted, else none.
+fn goals_in(words: &[u64], entry: usize, accepting: u16, goal: Goal) -> u16
+    requires { ⌜ (goal .node .0 < nodeLimit) × (entry < length (paired (now words))) ⌝ }
+    ensures { λ r. ⌜ r ≡ goalsIn (at (paired (now (words .entry))) entry) accepting goal ⌝ }
 {
     let node = goal.node;
-    let found = reach::verdict(word, node);
+    let found = reach::verdict(words, entry, node);
     if reach::facing(goal.want, found) {
         return accepting;
     }
@@ -71,16 +72,17 @@ pub(crate) fn seed(
     queue: &mut [u16],
 ) -> u16
     requires { ⌜ (0 < q .states) × (q .states ≤ stateLimit) × (goal .node .0 < nodeLimit) ⌝ }
-    requires { ⌜ (length (now dist) ≡ length (now words) * q .states) × (length (now dist) ≤ 8192) × (length (now dist) ≤ length (now queue)) ⌝ }
+    requires { ⌜ (length (now dist) ≡ length (paired (now words)) * q .states) × (length (now dist) ≤ 8192) × (length (now dist) ≤ length (now queue)) ⌝ }
     requires { ⌜ ((i : ℕ) → i < length (now dist) → at (now dist) i ≡ far) ⌝ }
-    ensures { λ r. ⌜ Seeded (goalAt (now (words .entry)) q goal) (now (dist .exit)) (now (queue .exit)) (length (now (dist .entry))) r ⌝ }
+    ensures { λ r. ⌜ Seeded (goalAt (paired (now (words .entry))) q goal) (now (dist .exit)) (now (queue .exit)) (length (now (dist .entry))) r ⌝ }
 {
     let states = q.states as u16;
     let mut tail: u16 = 0;
     let mut base: u16 = 0;
+    let n = words.len() / 2;
     let mut j: usize = 0;
-    while j < words.len() {
-        let goals = goals_in(words[j], q.accepting, goal);
+    while j < n {
+        let goals = goals_in(words, j, q.accepting, goal);
         tail = seed_entry(goals, states, base, tail, dist, queue);
         base += states;
         j += 1;

@@ -12,6 +12,7 @@ ghost use mathlib.Core.Path.{_≡_};
 ghost use Prim.Native.Nat.{ℕ, _+_, _*_, _≤_, _<_};
 ghost use lib.ListN.{length};
 ghost use Rattle.aldlf.specs.Constants.{stateLimit, entryLimit};
+ghost use Rattle.reach.specs.Marks.{paired};
 ghost use Rattle.graph.specs.Graph.{at, far, Step};
 ghost use Rattle.graph.specs.Configurations.{graphOf, EdgeFits, Ready};
 ghost use Rattle.shortest.specs.Descent.{Nearer, Lowest, Descends, Written, Inside, numberOf};
@@ -31,9 +32,9 @@ pub struct Wanted {
 // The entry at which e arrives in a configuration at the wanted distance, or FAR.
 fn nearer(words: &[u64], dist: &[u16], e: Edge, states: u8, wanted: Wanted) -> u16
     requires { ⌜ EdgeFits states e ⌝ }
-    requires { ⌜ (states ≤ stateLimit) × (length (now words) ≤ entryLimit) × (length (now dist) ≡ length (now words) * states) ⌝ }
-    requires { ⌜ Inside states (length (now words)) (wanted .from) × (e .from .0 ≡ wanted .from .state .0) ⌝ }
-    ensures { λ r. ⌜ Nearer (now (words .entry)) (now (dist .entry)) e states (numberOf states (wanted .from)) (wanted .distance) r ⌝ }
+    requires { ⌜ (states ≤ stateLimit) × (length (paired (now words)) ≤ entryLimit) × (length (now dist) ≡ length (paired (now words)) * states) ⌝ }
+    requires { ⌜ Inside states (length (paired (now words))) (wanted .from) × (e .from .0 ≡ wanted .from .state .0) ⌝ }
+    ensures { λ r. ⌜ Nearer (paired (now (words .entry))) (now (dist .entry)) e states (numberOf states (wanted .from)) (wanted .distance) r ⌝ }
 {
     let from = wanted.from;
     let j = arrival(words, e, from.entry);
@@ -49,12 +50,12 @@ fn nearer(words: &[u64], dist: &[u16], e: Edge, states: u8, wanted: Wanted) -> u
 
 // The lowest edge from a configuration to one at the wanted distance.
 fn lowest_edge(arcs: &[u64], words: &[u64], q: Automaton, dist: &[u16], wanted: Wanted) -> Move
-    requires { ⌜ Ready (now arcs) q (now words) ⌝ }
-    requires { ⌜ (length (now dist) ≡ length (now words) * q .states) × Inside (q .states) (length (now words)) (wanted .from) ⌝ }
-    requires { ⌜ ((e : ℕ) × (r : ℕ) × Step (graphOf (now arcs) q (now words)) (numberOf (q .states) (wanted .from)) e r × (at (now dist) r ≡ wanted .distance)) ⌝ }
-    ensures { λ r. ⌜ Lowest (graphOf (now (arcs .entry)) q (now (words .entry))) (now (dist .entry)) (numberOf (q .states) (wanted .from)) (wanted .distance)
+    requires { ⌜ Ready (now arcs) q (paired (now words)) ⌝ }
+    requires { ⌜ (length (now dist) ≡ length (paired (now words)) * q .states) × Inside (q .states) (length (paired (now words))) (wanted .from) ⌝ }
+    requires { ⌜ ((e : ℕ) × (r : ℕ) × Step (graphOf (now arcs) q (paired (now words))) (numberOf (q .states) (wanted .from)) e r × (at (now dist) r ≡ wanted .distance)) ⌝ }
+    ensures { λ r. ⌜ Lowest (graphOf (now (arcs .entry)) q (paired (now (words .entry)))) (now (dist .entry)) (numberOf (q .states) (wanted .from)) (wanted .distance)
         (r .edge) (numberOf (q .states) (r .to)) ⌝ }
-    ensures { λ r. ⌜ Inside (q .states) (length (now (words .entry))) (r .to) ⌝ }
+    ensures { λ r. ⌜ Inside (q .states) (length (paired (now (words .entry)))) (r .to) ⌝ }
 {
     let last = q.first + q.count;
     let from = wanted.from;
@@ -90,11 +91,11 @@ pub fn trace(
     start: Wanted,
     out: &mut [u16],
 )
-    requires { ⌜ Ready (now arcs) q (now words) ⌝ }
-    requires { ⌜ Descends (graphOf (now arcs) q (now words)) (now dist) (numberOf (q .states) (start .from)) ⌝ }
-    requires { ⌜ Inside (q .states) (length (now words)) (start .from) ⌝ }
+    requires { ⌜ Ready (now arcs) q (paired (now words)) ⌝ }
+    requires { ⌜ Descends (graphOf (now arcs) q (paired (now words))) (now dist) (numberOf (q .states) (start .from)) ⌝ }
+    requires { ⌜ Inside (q .states) (length (paired (now words))) (start .from) ⌝ }
     requires { ⌜ (start .distance ≡ at (now dist) (numberOf (q .states) (start .from))) × (start .distance < far) × (start .distance ≤ length (now out)) ⌝ }
-    ensures { λ _. ⌜ Written (graphOf (now (arcs .entry)) q (now (words .entry))) (now (dist .entry)) (numberOf (q .states) (start .from)) (now (out .entry)) (now (out .exit))
+    ensures { λ _. ⌜ Written (graphOf (now (arcs .entry)) q (paired (now (words .entry)))) (now (dist .entry)) (numberOf (q .states) (start .from)) (now (out .entry)) (now (out .exit))
         (start .distance) ⌝ }
 {
     let total = start.distance;

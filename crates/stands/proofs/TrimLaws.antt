@@ -15,7 +15,7 @@ use Rattle.aldlf.specs.Stands.{standsOf, ruleSheet}
 use Rattle.aldlf.specs.declared.NodeLine.{NodeLine}
 use Rattle.aldlf.specs.declared.Table.{Table}
 use Rattle.aldlf.proofs.Bools.{bool-cases}
-use Rattle.packing.specs.Numbers.{places, lineIn, edgeIn, lentAutomaton, lentUsed}
+use Rattle.packing.specs.Numbers.{linesPlace, headsPlace, rangesPlace, beforePlace, countsPlace, places, lineIn, edgeIn, lentAutomaton, lentUsed}
 use Rattle.packing.specs.Packed.{Packed}
 use Rattle.sheet.specs.Facts.{nodeAt, automatonAt, NodeFacts, AutomatonFacts, TableFacts, Lent}
 use Rattle.stands.specs.Trimmed.{kept, trimmed, ruleTable, Trimming}
@@ -51,23 +51,23 @@ copied-next xs ys i l e j b = go (bool-cases (eqb j i))
 pub trimming-none : (p : List Bool) (before : List ℕ) → length before ≡ places → Trimming p before before 0
 trimming-none p before e = record { size = e; done = λ j l. absurd (omega arith); low = λ i l. refl; high = λ i l. refl }
 
-pub trimming-next : (p : List Bool) (before after : List ℕ) (k v : ℕ) → k < nodeLimit → Trimming p before after k → v ≡ cond (getD p k false) (getD after (256 + k) 0) 0 → Trimming p before (set after (256 + k) v) (k + 1)
+pub trimming-next : (p : List Bool) (before after : List ℕ) (k v : ℕ) → k < nodeLimit → Trimming p before after k → v ≡ cond (getD p k false) (getD after (linesPlace + k) 0) 0 → Trimming p before (set after (linesPlace + k) v) (k + 1)
 trimming-next p before after k v l s e =
     record {
-      size = length-set after (256 + k) v ∙ s .size;
+      size = length-set after (linesPlace + k) v ∙ s .size;
       done = λ j b. go j b (bool-cases (eqb j k));
-      low = λ i b. getD-set-other after (256 + k) i v 0 (omega arith) ∙ s .low i b;
-      high = λ i b. getD-set-other after (256 + k) i v 0 (omega arith) ∙ s .high i (omega arith);
+      low = λ i b. getD-set-other after (linesPlace + k) i v 0 (omega arith) ∙ s .low i b;
+      high = λ i b. getD-set-other after (linesPlace + k) i v 0 (omega arith) ∙ s .high i (omega arith);
     }
   where
-    go : (j : ℕ) → j < k + 1 → (eqb j k ≡ true) ⊎ (eqb j k ≡ false) → getD (set after (256 + k) v) (256 + j) 0 ≡ cond (getD p j false) (getD before (256 + j) 0) 0
+    go : (j : ℕ) → j < k + 1 → (eqb j k ≡ true) ⊎ (eqb j k ≡ false) → getD (set after (linesPlace + k) v) (linesPlace + j) 0 ≡ cond (getD p j false) (getD before (linesPlace + j) 0) 0
     go j b (inl q) =
         let is : j ≡ k = eqb-true j k q in
-        ap (λ (z : ℕ). getD (set after (256 + k) v) (256 + z) 0) is
-        ∙ getD-set-same after (256 + k) v 0 (omega (arith, s .size))
-        ∙ e ∙ ap (λ (z : ℕ). cond (getD p k false) z 0) (s .high (256 + k) (omega arith))
-        ∙ ap (λ (z : ℕ). cond (getD p z false) (getD before (256 + z) 0) 0) (sym is)
-    go j b (inr q) = let ne : ¬ (j ≡ k) = eqb-false j k q in getD-set-other after (256 + k) (256 + j) v 0 (omega arith) ∙ s .done j (omega arith)
+        ap (λ (z : ℕ). getD (set after (linesPlace + k) v) (linesPlace + z) 0) is
+        ∙ getD-set-same after (linesPlace + k) v 0 (omega (arith, s .size))
+        ∙ e ∙ ap (λ (z : ℕ). cond (getD p k false) z 0) (s .high (linesPlace + k) (omega arith))
+        ∙ ap (λ (z : ℕ). cond (getD p z false) (getD before (linesPlace + z) 0) 0) (sym is)
+    go j b (inr q) = let ne : ¬ (j ≡ k) = eqb-false j k q in getD-set-other after (linesPlace + k) (linesPlace + j) v 0 (omega arith) ∙ s .done j (omega arith)
 
 -- the numbers are the trimmed table's
 pub trimming-all : (t : Table) (p : List Bool) (before after : List ℕ) → Trimming p before after nodeLimit → Packed t before → Packed (trimmed t p) after
@@ -77,7 +77,7 @@ trimming-all t p before after s P =
       nodes-length = kept-length p (t .nodes) ∙ P .nodes-length;
       automata-length = P .automata-length;
       edges-length = P .edges-length;
-      line-is = λ k l. ap lineIn (s .done k l) ∙ choose (getD p k false) (getD before (256 + k) 0) ∙ ap (λ (x : NodeLine). cond (getD p k false) x noLine) (P .line-is k l) ∙ sym (kept-at p (t .nodes) k);
+      line-is = λ k l. ap lineIn (s .done k l) ∙ choose (getD p k false) (getD before (linesPlace + k) 0) ∙ ap (λ (x : NodeLine). cond (getD p k false) x noLine) (P .line-is k l) ∙ sym (kept-at p (t .nodes) k);
       automaton-is = λ m l. same-automaton m l ∙ P .automaton-is m l;
       edge-is = λ e l. ap edgeIn (s .low e l) ∙ P .edge-is e l;
       used-is = same-used ∙ P .used-is;
@@ -88,10 +88,10 @@ trimming-all t p before after s P =
     choose false w = refl
 
     same-automaton : (m : ℕ) → m < automatonLimit → lentAutomaton after m ≡ lentAutomaton before m
-    same-automaton m l = rw (s .high (320 + m) (omega arith), s .high (336 + m) (omega arith), s .high (352 + m) (omega arith)) refl
+    same-automaton m l = rw (s .high (headsPlace + m) (omega arith), s .high (rangesPlace + m) (omega arith), s .high (beforePlace + m) (omega arith)) refl
 
     same-used : lentUsed after ≡ lentUsed before
-    same-used = rw (s .high 368 (omega arith), s .high 369 (omega arith), s .high 370 (omega arith)) refl
+    same-used = rw (s .high countsPlace (omega arith), s .high (countsPlace + 1) (omega arith), s .high (countsPlace + 2) (omega arith)) refl
 
 -- The sheet -----------------------------------------------------------------------------------------------------------------------
 

@@ -8,7 +8,7 @@ use Rattle.aldlf.specs.Sheet.{noLine, sheetOf}
 use Rattle.aldlf.specs.Stands.{standsOf}
 use Rattle.aldlf.specs.declared.NodeLine.{NodeLine}
 use Rattle.aldlf.specs.declared.Table.{Table}
-use Rattle.packing.specs.Numbers.{places}
+use Rattle.packing.specs.Numbers.{linesPlace, places}
 
 -- A line stays where its flag is set; past the flags none is.
 abbrev pub kept : List Bool → List NodeLine → List NodeLine
@@ -27,6 +27,6 @@ ruleTable t = trimmed t (standsOf (sheetOf t))
 -- On the way, in the numbers: of the first k nodes the lines that are not kept are 0, and nothing else has changed.
 pub record Trimming (p : List Bool) (before after : List ℕ) (k : ℕ) : Type 0 where
   pub size : length after ≡ places
-  pub done : (j : ℕ) → j < k → getD after (256 + j) 0 ≡ cond (getD p j false) (getD before (256 + j) 0) 0
-  pub low : (i : ℕ) → i < 256 → getD after i 0 ≡ getD before i 0
-  pub high : (i : ℕ) → 256 + k ≤ i → getD after i 0 ≡ getD before i 0
+  pub done : (j : ℕ) → j < k → getD after (linesPlace + j) 0 ≡ cond (getD p j false) (getD before (linesPlace + j) 0) 0
+  pub low : (i : ℕ) → i < linesPlace → getD after i 0 ≡ getD before i 0
+  pub high : (i : ℕ) → linesPlace + k ≤ i → getD after i 0 ≡ getD before i 0

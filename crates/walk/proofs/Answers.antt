@@ -22,7 +22,7 @@ use Rattle.aldlf.specs.declared.Table.{Table}
 use Rattle.aldlf.proofs.Bools.{and-right, bool-cases}
 use Rattle.aldlf.proofs.Letters.{by-letter, either-letter, neither-letter}
 use Rattle.aldlf.proofs.Laws.{judge-below}
-use Rattle.aldlf.proofs.Packing.{words-length, words-bit}
+use Rattle.aldlf.proofs.Words.{verdicts-length, verdicts-bit}
 use Rattle.aldlf.proofs.Short.{found}
 use Rattle.sheet.specs.Facts.{nodeAt, automatonAt, edgeAt, ModalFacts, TableFacts}
 use Rattle.sheet.proofs.Facts.{tests-below}
@@ -116,7 +116,7 @@ not-modal t k e =
 -- the log of the words
 module _ (t : Table) (words log : List ℕ) (W : JudgedLog t words log) where
   pub judged-long : length words ≡ length log
-  judged-long = ap length (W .words-are) ∙ words-length (sheetOf t) (plain (sheetOf t)) log
+  judged-long = ap length (W .words-are) ∙ verdicts-length (sheetOf t) (plain (sheetOf t)) log
 
   pub judged-few : length words ≤ 512
   judged-few = let l = leb-true (length log) 512 (and-right (leb 1 (length log)) (leb (length log) 512) (W .fits)) in omega (arith, judged-long)
@@ -201,7 +201,7 @@ module _ (t : Table) (log : List ℕ) (k i : ℕ) (facts : TableFacts t) (lk : k
     value-is : (a j : ℕ) → a < k → j < length log → h a j ≡ bit (at words j) a
     value-is a j la lj =
         judge-below S log (plain S) k a j la
-        ∙ (sym (words-bit S (plain S) log a j (earlier-in a la) lj) ∙ ap (λ (l : List ℕ). bit (at l j) a) (sym (W .words-are)))
+        ∙ (sym (verdicts-bit S (plain S) log a j (earlier-in a la) lj) ∙ ap (λ (l : List ℕ). bit (at l j) a) (sym (W .words-are)))
 
     edge-same : (e : ℕ) → q .first ≤ e → e < q .first + q .count → unpackedOf (at (f .arcs) e) ≡ edgeAt t e
     edge-same e lo hi = f .chained .edge-is e lo hi

@@ -1,5 +1,5 @@
 -- What judging answers, as the walk takes it: a refusal is the walk's own, and an accepted log's words are lent on.
-use Prim.Native.Nat.{ℕ, zero, suc, _≤_}
+use Prim.Native.Nat.{ℕ, zero, suc, _*_, _≤_}
 use native.Mathlib.Omega.{arith}
 use mathlib.Core.Path.{_≡_, refl, sym, ap, _∙_}
 use mathlib.Core.Bool.{Bool, true, false, false≢true}
@@ -7,8 +7,12 @@ use mathlib.Core.List.{List}
 use borrow.Author.Tests.{le-leb, leb-true}
 use lib.Dec.{eqb, leb}
 use lib.ListN.{length, take}
+use Rattle.aldlf.specs.Constants.{entryLimit}
 use Rattle.aldlf.specs.Sheet.{Sheet, sheetOf}
-use Rattle.aldlf.specs.Outcomes.{Whole, logFits, wholeNumber, wholeOutcome}
+use Rattle.aldlf.specs.Outcomes.{Whole, logFits, partVerdicts, wholeNumber, wholeOutcome}
+use Rattle.aldlf.specs.Verdict.{plain}
+use Rattle.reach.specs.Marks.{paired}
+use Rattle.reach.proofs.Paired.{paired-halves}
 use Rattle.aldlf.specs.Walks.{walkOutcome}
 use Rattle.aldlf.specs.declared.Table.{Table}
 use Rattle.aldlf.proofs.Bools.{and-right}
@@ -32,10 +36,10 @@ module _ (t : Table) (log words after : List ℕ) (r : Judged) where
   S = sheetOf t
 
   abbrev room : Bool
-  room = leb (length log) (length words)
+  room = leb (2 * length log) (length words)
 
   pub refused-first : (q : ℕ) → r ≡ judged.Refused q → wholeOf r after ≡ wholeOutcome (wellFormed t) S log words → isHeld r ≡ eqb (wholeNumber (wellFormed t) log words) 0
-      → length words ≡ 512 → (k i : ℕ) (edges : List ℕ) → answerOf (Refused q) edges ≡ walkOutcome (wellFormed t) S log k i edges
+      → length words ≡ 2 * entryLimit → (k i : ℕ) (edges : List ℕ) → answerOf (Refused q) edges ≡ walkOutcome (wellFormed t) S log k i edges
   unfolding answerOf wholeNumber
   refused-first q e w held big k i edges =
       let first = wholeNumber (wellFormed t) log words in
@@ -46,16 +50,16 @@ module _ (t : Table) (log words after : List ℕ) (r : Judged) where
       has-room : logFits log ≡ true → room ≡ true
       has-room f =
           let l : length log ≤ 512 = leb-true (length log) 512 (and-right (leb 1 (length log)) (leb (length log) 512) f) in
-          le-leb (length log) (length words) (omega arith)
+          le-leb (2 * length log) (length words) (omega arith)
 
-  pub accepted-log : (n : ℕ) → r ≡ judged.Held n → wholeOf r after ≡ wholeOutcome (wellFormed t) S log words → (wellFormed t ≡ true) × JudgedLog t (take (length log) after) log
+  pub accepted-log : (n : ℕ) → r ≡ judged.Held n → wholeOf r after ≡ wholeOutcome (wellFormed t) S log words → (wellFormed t ≡ true) × JudgedLog t (paired (take (2 * length log) after)) log
   accepted-log n e w =
       let o = wholeOutcome (wellFormed t) S log words in
       let is : wholeOf (judged.Held n) after ≡ o = ap (λ (x : Judged). wholeOf x after) (sym e) ∙ w in
       let z : o .number ≡ 0 = sym (ap (λ (x : Whole). x .number) is) in
       let yes = whole-yes (wellFormed t) S log words z in
-      (yes .0, record { fits = yes .1; words-are = ap (λ (x : Whole). take (length log) (x .buffer)) is ∙ whole-words (wellFormed t) S log words z })
+      (yes .0, record { fits = yes .1; words-are = ap paired (ap (λ (x : Whole). take (2 * length log) (x .buffer)) is ∙ whole-words (wellFormed t) S log words z) ∙ paired-halves (partVerdicts S (plain S) log) })
 
-  -- so there is a word for each entry
+  -- so there are words for all entries
   pub accepted-room : (n : ℕ) → r ≡ judged.Held n → wholeOf r after ≡ wholeOutcome (wellFormed t) S log words → length log ≤ 512
   accepted-room n e w = leb-true (length log) 512 (and-right (leb 1 (length log)) (leb (length log) 512) (accepted-log n e w .1 .fits))

@@ -10,20 +10,19 @@ use mathlib.Core.Option.{Option, none, some}
 use borrow.Author.Tests.{le-leb, lt-ltb, leb-true, ltb-true}
 use lib.Dec.{eqb, leb, ltb}
 use lib.ListN.{length, drop}
-use Rattle.aldlf.specs.Sheet.{Sheet, Line, T, F, P, N, A, O, D, B, byMode, bit, sheetOf}
+use Rattle.aldlf.specs.Sheet.{Sheet, Line, T, F, P, N, A, O, D, B, byMode, sheetOf}
 use Rattle.aldlf.specs.Parts.{Sound, counts}
 use Rattle.aldlf.specs.Verdict.{verdict, plain}
-use Rattle.aldlf.specs.Outcomes.{logFits, logWords}
+use Rattle.aldlf.specs.Outcomes.{verdictAt, logFits, logWords}
 use Rattle.aldlf.specs.Walks.{Best, walkOf, walkOutcome, present, edgesOf}
 use Rattle.aldlf.specs.Walks as walks
 use Rattle.aldlf.specs.declared.Table.{Table}
 use Rattle.aldlf.proofs.Bools.{and-right, bool-cases, lt-or-le}
-use Rattle.aldlf.proofs.Packing.{words-bit}
+use Rattle.aldlf.proofs.Words.{words-bit}
 use Rattle.aldlf.proofs.Shortest.{walk-iff, best-short, shown-iff}
 use Rattle.sheet.specs.Given.{wellFormed}
 use Rattle.sheet.proofs.Facts.{table-facts}
 use Rattle.sheet.proofs.Sound.{sound}
-use Rattle.graph.specs.Graph.{at}
 use Rattle.walk.proofs.Questions.{shownBy, byRoom, outcome-0, outcome-38, outcome-40, outcome-walk}
 
 -- a line that is no D and no B is shown nowhere
@@ -102,10 +101,10 @@ module _ (t : Table) (log : List ℕ) (k i : ℕ) where
 
   -- At an accepted table and log a walk is shown, given room, exactly where a D node's bit is 1 or a B node's bit is 0.
   pub shown-where : wellFormed t ≡ true → logFits log ≡ true → k < t .used .nodes → i < length log → (buffer : List ℕ) → 8191 ≤ length buffer
-      → eqb (walkOutcome (wellFormed t) S log k i buffer .number) 0 ≡ byMode (λ m a. bit (at (logWords S log) i) k) (λ m a. not (bit (at (logWords S log) i) k)) false (S .line k)
+      → eqb (walkOutcome (wellFormed t) S log k i buffer .number) 0 ≡ byMode (λ m a. verdictAt (logWords S log) i k) (λ m a. not (verdictAt (logWords S log) i k)) false (S .line k)
   shown-where w f lk li buffer room =
       ap (λ (g : Bool). eqb (walkOutcome g S log k i buffer .number) 0) w ∙ (go (bool-cases (byMode (λ m a. true) (λ m a. true) false (S .line k)))
-      ∙ ap (λ (v : Bool). byMode (λ m a. v) (λ m a. not v) false (S .line k)) (sym (words-bit S (plain S) log k i on-sheet li)))
+      ∙ ap (λ (v : Bool). byMode (λ m a. v) (λ m a. not v) false (S .line k)) (sym (words-bit S (plain S) log k i on-sheet (omega (arith, lk, table-facts t w .nodes≤)) li)))
     where
       on-sheet : k < S .nodes
       on-sheet = nodes-in t k lk

@@ -8,7 +8,8 @@ use lib.Dec.{eqb}
 use lib.ListN.{length, getD}
 use Rattle.aldlf.specs.Constants.{nodeLimit, automatonLimit, stateLimit, edgeLimit, entryLimit, letterD, letterB}
 use Rattle.aldlf.specs.Sheet.{noEdge, noAutomaton, sheetOf}
-use Rattle.aldlf.specs.Outcomes.{logFits, logWords}
+use Rattle.aldlf.specs.Outcomes.{logFits, partVerdicts}
+use Rattle.aldlf.specs.Verdict.{plain}
 use Rattle.aldlf.specs.declared.Automaton.{Automaton}
 use Rattle.aldlf.specs.declared.Entry.{Entry}
 use Rattle.aldlf.specs.declared.NodeLine.{NodeLine}
@@ -71,10 +72,10 @@ pub record LineFound (table : Table) (line : NodeLine) (words : List ℕ) (i : �
   pub found : Found (graphOf arcs (getD (table .automata) (line .a) noAutomaton) words) (GoalAt words (getD (table .automata) (line .a) noAutomaton) (goalOf line))
       (startOf (getD (table .automata) (line .a) noAutomaton) i) before after r
 
--- The words are the verdict words of a log that question 32 accepts.
+-- The entries' numbers are the verdicts on a log that question 32 accepts.
 pub record JudgedLog (table : Table) (words log : List ℕ) : Type 0 where
   pub fits : logFits log ≡ true
-  pub words-are : words ≡ logWords (sheetOf table) log
+  pub words-are : words ≡ partVerdicts (sheetOf table) (plain (sheetOf table)) log
 
 -- The same by a table that some sheet gives, lent as numbers.
 pub record LentLog (table : Table) (numbers words log : List ℕ) : Type 0 where

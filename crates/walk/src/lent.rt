@@ -21,6 +21,7 @@ ghost use Rattle.aldlf.specs.Sheet.{sheetOf};
 ghost use Rattle.aldlf.specs.Walks.{walkOutcome};
 ghost use Rattle.aldlf.specs.declared.Table.{Table};
 ghost use Rattle.packing.specs.Packed.{Packed};
+ghost use Rattle.reach.specs.Marks.{paired};
 ghost use Rattle.sheet.specs.Given.{wellFormed};
 ghost use Rattle.walk.specs.Answer.{answerOf};
 ghost use Rattle.walk.specs.Search.{modalOf, LentLog};
@@ -37,13 +38,13 @@ pub fn walk_lent(
     ensures { λ r. ⌜ ((t : Table) → Packed t (now (numbers .entry))
         → answerOf r (now (edges .exit)) ≡ walkOutcome (wellFormed t) (sheetOf t) (now (log .entry)) (node .0) (entry .0) (now (edges .entry))) ⌝ }
 {
-    let mut words = [0u64; aldlf::ENTRIES];
+    let mut words = [0u64; 2 * aldlf::ENTRIES];
     let judged = judge_lent(numbers, log, &mut words);
     if let Judged::Refused(number) = judged {
         return WalkAnswer::Refused(number);
     }
     let n = log.len();
-    walk_judged(numbers, node, entry, &words[..n], edges)
+    walk_judged(numbers, node, entry, &words[..2 * n], edges)
 }
 
 // The walk at an accepted table and log, from the log's verdict words: questions 36 to 40.
@@ -54,8 +55,8 @@ fn walk_judged(
     words: &[u64],
     edges: &mut [u16],
 ) -> WalkAnswer
-    requires { ⌜ ((t : Table) × (log : List ℕ) × LentLog t (now numbers) (now words) log) ⌝ }
-    ensures { λ r. ⌜ ((t : Table) (log : List ℕ) → LentLog t (now (numbers .entry)) (now (words .entry)) log
+    requires { ⌜ ((t : Table) × (log : List ℕ) × LentLog t (now numbers) (paired (now words)) log) ⌝ }
+    ensures { λ r. ⌜ ((t : Table) (log : List ℕ) → LentLog t (now (numbers .entry)) (paired (now (words .entry))) log
         → answerOf r (now (edges .exit)) ≡ walkOutcome true (sheetOf t) log (node .0) (entry .0) (now (edges .entry))) ⌝ }
 {
     let k = node.0;
@@ -64,7 +65,7 @@ fn walk_judged(
     if count <= k {
         return WalkAnswer::Refused(36);
     }
-    if words.len() <= i {
+    if words.len() / 2 <= i {
         return WalkAnswer::Refused(37);
     }
     let line = line_at(numbers, node);

@@ -15,6 +15,7 @@ use shortest::trace::trace;
 ghost use mathlib.Core.Path.{_≡_};
 ghost use Prim.Native.Nat.{ℕ, _*_, _≤_, _<_};
 ghost use lib.ListN.{length};
+ghost use Rattle.reach.specs.Marks.{paired};
 ghost use Rattle.graph.specs.Graph.{at, far};
 ghost use Rattle.graph.specs.Configurations.{graphOf, startOf, Ready};
 ghost use Rattle.shortest.specs.Goals.{GoalAt, Asked};
@@ -23,10 +24,10 @@ ghost use Rattle.walk.specs.Search.{Answered, Found, queryOf};
 
 // Questions 39 and 40, and the walk along the distances.
 fn show(arcs: &[u64], words: &[u64], query: Query, dist: &[u16], out: &mut [u16]) -> WalkAnswer
-    requires { ⌜ Ready (now arcs) (query .automaton) (now words) ⌝ }
-    requires { ⌜ Asked query (length (now words)) ⌝ }
-    requires { ⌜ Descends (graphOf (now arcs) (query .automaton) (now words)) (now dist) (startOf (query .automaton) (query .entry .0)) ⌝ }
-    ensures { λ r. ⌜ Answered (graphOf (now (arcs .entry)) (query .automaton) (now (words .entry))) (now (dist .entry))
+    requires { ⌜ Ready (now arcs) (query .automaton) (paired (now words)) ⌝ }
+    requires { ⌜ Asked query (length (paired (now words))) ⌝ }
+    requires { ⌜ Descends (graphOf (now arcs) (query .automaton) (paired (now words))) (now dist) (startOf (query .automaton) (query .entry .0)) ⌝ }
+    ensures { λ r. ⌜ Answered (graphOf (now (arcs .entry)) (query .automaton) (paired (now (words .entry)))) (now (dist .entry))
         (startOf (query .automaton) (query .entry .0)) (now (out .entry)) (now (out .exit)) r ⌝ }
 {
     let q = query.automaton;
@@ -59,11 +60,11 @@ fn search(
     queue: &mut [u16],
     out: &mut [u16],
 ) -> WalkAnswer
-    requires { ⌜ Ready (now arcs) (query .automaton) (now words) ⌝ }
-    requires { ⌜ Asked query (length (now words)) ⌝ }
-    requires { ⌜ (length (now dist) ≡ length (now words) * query .automaton .states) × (length (now dist) ≤ length (now queue)) ⌝ }
+    requires { ⌜ Ready (now arcs) (query .automaton) (paired (now words)) ⌝ }
+    requires { ⌜ Asked query (length (paired (now words))) ⌝ }
+    requires { ⌜ (length (now dist) ≡ length (paired (now words)) * query .automaton .states) × (length (now dist) ≤ length (now queue)) ⌝ }
     requires { ⌜ ((i : ℕ) → i < length (now dist) → at (now dist) i ≡ far) ⌝ }
-    ensures { λ r. ⌜ Found (graphOf (now (arcs .entry)) (query .automaton) (now (words .entry))) (GoalAt (now (words .entry)) (query .automaton) (query .goal))
+    ensures { λ r. ⌜ Found (graphOf (now (arcs .entry)) (query .automaton) (paired (now (words .entry)))) (GoalAt (paired (now (words .entry))) (query .automaton) (query .goal))
         (startOf (query .automaton) (query .entry .0)) (now (out .entry)) (now (out .exit)) r ⌝ }
 {
     distances(arcs, words, query, dist, queue);
@@ -72,13 +73,13 @@ fn search(
 
 // A search in no more room than it needs: clearing the larger room would take longer than the search of a short log.
 pub(crate) fn find(arcs: &[u64], words: &[u64], query: Query, out: &mut [u16]) -> WalkAnswer
-    requires { ⌜ Ready (now arcs) (query .automaton) (now words) ⌝ }
-    requires { ⌜ Asked query (length (now words)) ⌝ }
-    ensures { λ r. ⌜ Found (graphOf (now (arcs .entry)) (query .automaton) (now (words .entry))) (GoalAt (now (words .entry)) (query .automaton) (query .goal))
+    requires { ⌜ Ready (now arcs) (query .automaton) (paired (now words)) ⌝ }
+    requires { ⌜ Asked query (length (paired (now words))) ⌝ }
+    ensures { λ r. ⌜ Found (graphOf (now (arcs .entry)) (query .automaton) (paired (now (words .entry)))) (GoalAt (paired (now (words .entry))) (query .automaton) (query .goal))
         (startOf (query .automaton) (query .entry .0)) (now (out .entry)) (now (out .exit)) r ⌝ }
 {
     let states = query.automaton.states as usize;
-    let size = words.len() * states;
+    let size = words.len() / 2 * states;
     if size <= 512 {
         let mut dist = [FAR; 512];
         let mut queue = [0u16; 512];

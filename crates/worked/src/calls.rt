@@ -36,7 +36,7 @@ pub(crate) fn log_read(line: &[u8]) {
 // Judges the log; shows the node's verdict at each entry.
 pub(crate) fn verdicts(line: &[u8]) {
     let mut words = [9u32; MOST];
-    let mut bits = [9u64; MOST];
+    let mut bits = [9u64; 2 * MOST];
     let n = entries(line, &mut words);
     match judge::judge(table(line), first(&words, n), &mut bits) {
         Judged::Held(_) => show::column(&bits, n, number(line, 4)),
@@ -72,7 +72,7 @@ pub(crate) fn first_part(line: &[u8]) -> Row {
 // Judges a part looking ahead; shows node 2's verdicts and bit 0 of its number in the row, which is handed on.
 pub(crate) fn part(line: &[u8], row: Row) -> Row {
     let mut words = [9u32; MOST];
-    let mut bits = [9u64; MOST];
+    let mut bits = [9u64; 2 * MOST];
     let n = entries(line, &mut words);
     let a = judge::judge_part(table(line), Way::Ahead, row, first(&words, n), &mut bits);
     let next = a.row;

@@ -18,12 +18,15 @@ pub(crate) fn refused_at(q: u8, line: usize) {
     number(line as u64);
 }
 
-// Node k's bit in each of the first words.
+// A verdict word has so many bits.
+const BITS: usize = aldlf::WORD_BITS as usize;
+
+// Node k's verdict at each of the first entries, which have two words each.
 pub(crate) fn column(words: &[u64], count: usize, k: usize) {
     let mut i: usize = 0;
     while i < words.len() {
-        if i < count {
-            number(words[i] >> (k % 64) & 1);
+        if (i / 2 < count) & (i % 2 == k / BITS) {
+            number(words[i] >> (k % BITS) & 1);
         }
         i += 1;
     }

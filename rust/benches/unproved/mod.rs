@@ -9,8 +9,36 @@ pub mod walks;
 
 use std::mem::MaybeUninit;
 
-pub const TABLE: usize = 1315;
-pub type Row = [u16; 64];
+/// As many nodes as a sheet may have.
+pub const NODES: usize = 128;
+/// Where a table has its automata, its edges and its counts, and how many numbers it is.
+pub const AUTOMATA_AT: usize = 3 * NODES;
+pub const EDGES_AT: usize = AUTOMATA_AT + 6 * 16;
+pub const COUNTS_AT: usize = EDGES_AT + 4 * 256;
+pub const TABLE: usize = COUNTS_AT + 3;
+pub type Row = [u16; NODES];
+
+/// The verdicts at an entry: nodes 0 to 63 in the first word, the others in the second.
+pub type Words = [u64; 2];
+
+/// The word and the bit of a node.
+#[inline(always)]
+pub fn place(node: usize) -> (usize, usize) {
+    (node >> 6 & 1, node % 64)
+}
+
+/// A node's verdict.
+#[inline(always)]
+pub fn bit(words: &Words, node: usize) -> u64 {
+    let (word, bit) = place(node);
+    words[word] >> bit & 1
+}
+
+/// The words of so many entries in a lent buffer; none where it is too short.
+#[inline(always)]
+pub fn words_of(verdicts: &mut [u64], entries: usize) -> Option<&mut [Words]> {
+    verdicts.as_chunks_mut().0.get_mut(..entries)
+}
 
 #[derive(Clone, Copy)]
 pub struct Node {
@@ -33,46 +61,46 @@ pub fn node(t: &[u16; TABLE], k: usize) -> Node {
 }
 
 pub fn automaton(t: &[u16; TABLE], m: usize) -> Automaton<'_> {
-    let x = &t[192 + 6 * m..198 + 6 * m];
-    let first = 288 + 4 * x[3] as usize;
+    let x = &t[AUTOMATA_AT + 6 * m..][..6];
+    let first = EDGES_AT + 4 * x[3] as usize;
     Automaton { states: x[0] as usize, start: x[1] as usize, accepting: x[2], edges: &t[first..first + 4 * x[4] as usize] }
 }
 
 /// A node that is no D or B, at every entry: one loop for each letter.
 #[inline(always)]
-pub fn plain_node(x: Node, k: usize, log: &[u32], words: &mut [u64]) {
-    let (a, b) = (x.a & 63, x.b & 63);
+pub fn plain_node(x: Node, k: usize, log: &[u32], words: &mut [Words]) {
+    let (a, b, (word, k)) = (x.a as usize, x.b as usize, place(k));
     match x.letter {
-        b'T' => words.iter_mut().for_each(|w| *w |= 1 << k),
+        b'T' => words.iter_mut().for_each(|w| w[word] |= 1 << k),
         b'F' => (),
-        b'P' => words.iter_mut().zip(log).for_each(|(w, facts)| *w |= ((facts >> (a & 31) & 1) as u64) << k),
-        b'N' => words.iter_mut().for_each(|w| *w |= (!*w >> a & 1) << k),
-        b'A' => words.iter_mut().for_each(|w| *w |= (*w >> a & *w >> b & 1) << k),
-        _ => words.iter_mut().for_each(|w| *w |= ((*w >> a | *w >> b) & 1) << k),
+        b'P' => words.iter_mut().zip(log).for_each(|(w, facts)| w[word] |= ((facts >> (a & 31) & 1) as u64) << k),
+        b'N' => words.iter_mut().for_each(|w| w[word] |= (bit(w, a) ^ 1) << k),
+        b'A' => words.iter_mut().for_each(|w| w[word] |= (bit(w, a) & bit(w, b)) << k),
+        _ => words.iter_mut().for_each(|w| w[word] |= (bit(w, a) | bit(w, b)) << k),
     }
 }
 
 /// The nodes that a line names, those that its automaton's edges test among them.
-fn named(t: &[u16; TABLE], k: usize) -> u64 {
+fn named(t: &[u16; TABLE], k: usize) -> u128 {
     let x = node(t, k);
     match x.letter {
         b'T' | b'F' | b'P' => 0,
         b'N' => 1 << x.a,
         b'A' | b'O' => 1 << x.a | 1 << x.b,
-        _ => automaton(t, x.a as usize).edges.chunks_exact(4).fold(1 << x.b, |tested, e| tested | 1 << (e[2] & 63)),
+        _ => automaton(t, x.a as usize).edges.chunks_exact(4).fold(1 << x.b, |tested, e| tested | 1 << (e[2] & 127)),
     }
 }
 
 /// The nodes below node k that it stands on.
-pub fn stands_on(t: &[u16; TABLE], k: usize) -> u64 {
+pub fn stands_on(t: &[u16; TABLE], k: usize) -> u128 {
     (0..k).rev().fold(named(t, k), |all, j| if all >> j & 1 == 1 { all | named(t, j) } else { all })
 }
 
 /// The nodes that are judged in a part, of a table that some sheet gives: the rule and those that it stands on; none where question 34 gets a no.
 /// All edges of an automaton are looked at: an early exit would keep it at one edge a turn.
-pub fn part_nodes(t: &[u16; TABLE], ahead: bool) -> Option<u64> {
+pub fn part_nodes(t: &[u16; TABLE], ahead: bool) -> Option<u128> {
     let wrong = if ahead { 2 } else { 1 };
-    let rule = t[1312] as usize - 1;
+    let rule = t[COUNTS_AT] as usize - 1;
     let nodes = 1 << rule | stands_on(t, rule);
     let lines = (0..=rule).filter(|k| nodes >> k & 1 == 1).map(|k| node(t, k));
     let automata = lines.filter(|x| [b'D', b'B'].contains(&x.letter)).fold(0u16, |all, x| all | 1 << x.a);

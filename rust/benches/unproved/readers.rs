@@ -1,5 +1,5 @@
 //! Readers of logs and sheets that ask every question, in one pass that looks at each byte about once. A refusal alters nothing.
-use super::{filled, room, TABLE};
+use super::{filled, room, AUTOMATA_AT, COUNTS_AT, EDGES_AT, NODES, TABLE};
 
 /// The number of the question that got a no, and its line.
 pub type No = (u8, u32);
@@ -133,7 +133,7 @@ struct Reading {
     automata: usize,
     edges: usize,
     /// The nodes built on no D or B.
-    plain: u64,
+    plain: u128,
     /// Whether the line before is M, G or E; that automaton's states, and those that accept.
     inside: bool,
     states: u32,
@@ -197,13 +197,13 @@ impl Reading {
         if from >= self.states || dir > 2 || test >= self.nodes as u32 || to >= self.states {
             return Err(7);
         }
-        if dir > 0 && self.plain >> (test & 63) & 1 == 0 {
+        if dir > 0 && self.plain >> (test & 127) & 1 == 0 {
             return Err(9);
         }
-        let (at, m) = (288 + 4 * self.edges, (self.automata - 1) & 15);
+        let (at, m) = (EDGES_AT + 4 * self.edges, (self.automata - 1) & 15);
         self.table[at..at + 4].copy_from_slice(&[from as u16, dir as u16, test as u16, to as u16]);
         self.touched[m] |= 1 << (from & 31) | 1 << (to & 31);
-        self.table[192 + 6 * m + 4] += 1;
+        self.table[AUTOMATA_AT + 6 * m + 4] += 1;
         self.edges += 1;
         Ok(())
     }
@@ -220,7 +220,7 @@ impl Reading {
             return Err(8);
         }
         self.accepting |= 1 << (state & 31);
-        self.table[192 + 6 * ((self.automata - 1) & 15) + 2] = self.accepting as u16;
+        self.table[AUTOMATA_AT + 6 * ((self.automata - 1) & 15) + 2] = self.accepting as u16;
         Ok(())
     }
 
@@ -232,7 +232,7 @@ impl Reading {
         if states.wrapping_sub(1) > 15 || start >= states {
             return Err(7);
         }
-        let at = 192 + 6 * self.automata;
+        let at = AUTOMATA_AT + 6 * self.automata;
         self.table[at..at + 6].copy_from_slice(&[states as u16, start as u16, 0, self.edges as u16, 0, self.nodes as u16]);
         self.lines[self.automata] = k;
         self.automata += 1;
@@ -242,21 +242,21 @@ impl Reading {
 
     #[inline(always)]
     fn node(&mut self, letter: u8, a: u32, b: u32) -> Result<(), u8> {
-        if self.nodes == 64 {
+        if self.nodes == NODES {
             return Err(5);
         }
         let n = self.nodes as u32;
         let (fits, is_plain) = match letter {
             b'T' | b'F' => (true, true),
             b'P' => (a < 32, true),
-            b'N' => (a < n, self.plain >> (a & 63) & 1 == 1),
-            b'A' | b'O' => (a < n && b < n, self.plain >> (a & 63) & self.plain >> (b & 63) & 1 == 1),
+            b'N' => (a < n, self.plain >> (a & 127) & 1 == 1),
+            b'A' | b'O' => (a < n && b < n, self.plain >> (a & 127) & self.plain >> (b & 127) & 1 == 1),
             _ => ((a as usize) < self.automata && b < n, false),
         };
         if !fits {
             return Err(7);
         }
-        self.plain |= (is_plain as u64) << n;
+        self.plain |= (is_plain as u128) << n;
         let at = 3 * self.nodes;
         self.table[at..at + 3].copy_from_slice(&[letter as u16, a as u16, b as u16]);
         self.nodes += 1;
@@ -267,14 +267,14 @@ impl Reading {
     /// Questions 10 and 11, after line k, the last.
     fn whole(mut self, k: u32) -> Result<[u16; TABLE], No> {
         for m in 0..self.automata {
-            if self.touched[m] != (1u32 << self.table[192 + 6 * m]) - 1 {
+            if self.touched[m] != (1u32 << self.table[AUTOMATA_AT + 6 * m]) - 1 {
                 return Err((10, self.lines[m]));
             }
         }
         if self.inside {
             return Err((11, k));
         }
-        self.table[1312..].copy_from_slice(&[self.nodes as u16, self.automata as u16, self.edges as u16]);
+        self.table[COUNTS_AT..].copy_from_slice(&[self.nodes as u16, self.automata as u16, self.edges as u16]);
         Ok(self.table)
     }
 }

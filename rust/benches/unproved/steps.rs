@@ -1,7 +1,7 @@
 //! Judging by step masks: a mask of states for each entry. For each automaton and each *kind* of entry (entries alike on the tested nodes) the edges
 //! become once two matrices of 16 masks, test edges closed in beforehand; then marking an entry from those beside it is a matrix times a mask.
 use super::given::given;
-use super::{automaton, filled, logs_fit, node, part_nodes, plain_node, room, Automaton, Row, TABLE};
+use super::{automaton, bit, filled, logs_fit, node, part_nodes, place, plain_node, room, words_of, Automaton, Row, Words, COUNTS_AT, NODES, TABLE};
 use std::arch::x86_64::{_mm_and_si128, _mm_cmpeq_epi16, _mm_loadu_si128, _mm_movemask_epi8, _mm_packs_epi16, _mm_set1_epi16, _mm_setzero_si128};
 use std::mem::MaybeUninit;
 
@@ -16,7 +16,7 @@ struct Kind {
     ahead: Matrix,
     back: Matrix,
     /// Which of the tested nodes hold.
-    key: u64,
+    key: Words,
     goal: u16,
 }
 
@@ -63,10 +63,10 @@ fn closed(mut stay: Matrix, states: usize) -> Matrix {
     stay
 }
 
-fn kind_of(m: &Automaton, looks: [bool; 3], key: u64) -> Kind {
+fn kind_of(m: &Automaton, looks: [bool; 3], key: Words) -> Kind {
     let mut rows = [[0; 16]; 4];
     for e in m.edges.chunks_exact(4) {
-        rows[(e[1] & 3) as usize][(e[0] & 15) as usize] |= ((key >> (e[2] & 63) & 1) as u16) << (e[3] & 15);
+        rows[(e[1] & 3) as usize][(e[0] & 15) as usize] |= (bit(&key, e[2] as usize) as u16) << (e[3] & 15);
     }
     let [stay, mut ahead, mut back, _] = rows;
     let mut goal = m.accepting;
@@ -101,20 +101,21 @@ impl Known {
 
     /// The key of a kind that is there.
     #[inline(always)]
-    fn key(&self, kind: usize) -> u64 {
+    fn key(&self, kind: usize) -> Words {
         unsafe { self.kinds[kind & 511].assume_init_ref() }.key
     }
 
-    fn add(&mut self, m: &Automaton, key: u64) -> usize {
+    fn add(&mut self, m: &Automaton, key: Words) -> usize {
         self.kinds[self.count].write(kind_of(m, self.looks, key));
         self.count += 1;
         self.count - 1
     }
 
-    fn learn(&mut self, number: usize, m: &Automaton, words: &[u64]) {
-        let (mut tested, mut directions) = (0u64, 0u32);
+    fn learn(&mut self, number: usize, m: &Automaton, words: &[Words]) {
+        let (mut tested, mut directions) = ([0; 2], 0u32);
         for e in m.edges.chunks_exact(4) {
-            tested |= 1 << (e[2] & 63);
+            let (word, at) = place(e[2] as usize);
+            tested[word] |= 1 << at;
             directions |= 1 << (e[1] & 3);
         }
         self.automaton = number;
@@ -128,22 +129,24 @@ impl Known {
     }
 
     /// Short logs: each key is looked for among those met.
-    fn find_kinds(&mut self, m: &Automaton, words: &[u64], tested: u64) {
+    fn find_kinds(&mut self, m: &Automaton, words: &[Words], tested: Words) {
         for (i, w) in words.iter().enumerate() {
-            let kind = (0..self.count).find(|kind| self.key(*kind) == w & tested).unwrap_or_else(|| self.add(m, w & tested));
+            let key = [w[0] & tested[0], w[1] & tested[1]];
+            let kind = (0..self.count).find(|kind| self.key(*kind) == key).unwrap_or_else(|| self.add(m, key));
             self.kind[i].write(kind as u16);
         }
     }
 
     /// Keys met are in a table of at least twice as many places as there are entries, at the first free place from their hash on.
-    fn hash_kinds(&mut self, m: &Automaton, words: &[u64], tested: u64) {
+    fn hash_kinds(&mut self, m: &Automaton, words: &[Words], tested: Words) {
         const FREE: u16 = u16::MAX;
         let size = (2 * words.len()).next_power_of_two();
         let mut places = room::<u16, 1024>();
         let places = filled(&mut places[..size], FREE);
         for (i, w) in words.iter().enumerate() {
-            let key = w & tested;
-            let mut at = (key.wrapping_mul(0x9e37_79b9_7f4a_7c15) >> (64 - size.trailing_zeros())) as usize;
+            let key = [w[0] & tested[0], w[1] & tested[1]];
+            let mixed = (key[0] ^ key[1].rotate_left(32)).wrapping_mul(0x9e37_79b9_7f4a_7c15);
+            let mut at = (mixed >> (64 - size.trailing_zeros())) as usize;
             while places[at] != FREE && self.key(places[at] as usize) != key {
                 at = (at + 1) & (size - 1);
             }
@@ -156,21 +159,22 @@ impl Known {
 }
 
 pub fn judge(t: &[u16; TABLE], log: &[u32], verdicts: &mut [u64]) -> Option<usize> {
-    if !given(t) || log.is_empty() || log.len() > 512 || verdicts.len() < log.len() {
+    if !given(t) || log.is_empty() || log.len() > 512 {
         return None;
     }
-    Some(judge_given(t, log, verdicts, u64::MAX, None).0)
+    Some(judge_given(t, log, words_of(verdicts, log.len())?, u128::MAX, None).0)
 }
 
 /// Many logs of one sheet: their words one after the other, and how many each has. The verdicts and the counts, where there is no refusal.
 pub fn logs(t: &[u16; TABLE], words: &[u32], lengths: &[u16], verdicts: &mut [u64], held: &mut [u16]) -> Option<()> {
-    if !given(t) || !logs_fit(words, lengths) || verdicts.len() < words.len() || held.len() < lengths.len() {
+    if !given(t) || !logs_fit(words, lengths) || held.len() < lengths.len() {
         return None;
     }
+    let verdicts = words_of(verdicts, words.len())?;
     let mut at = 0;
     for (n, held) in lengths.iter().zip(held) {
         let n = *n as usize;
-        *held = judge_given(t, &words[at..at + n], &mut verdicts[at..at + n], u64::MAX, None).0 as u16;
+        *held = judge_given(t, &words[at..at + n], &mut verdicts[at..at + n], u128::MAX, None).0 as u16;
         at += n;
     }
     Some(())
@@ -182,21 +186,20 @@ pub fn part(t: &[u16; TABLE], log: &[u32], verdicts: &mut [u64], row: &Row, ahea
         return None;
     }
     let wanted = part_nodes(t, ahead)?;
-    if log.len() > 512 || verdicts.len() < log.len() {
+    if log.len() > 512 {
         return None;
     }
-    Some(judge_given(t, log, verdicts, wanted, Some((row, ahead))).1)
+    Some(judge_given(t, log, words_of(verdicts, log.len())?, wanted, Some((row, ahead))).1)
 }
 
 /// The wanted nodes, with a table that was checked: the count held, and the row of a part.
-fn judge_given(t: &[u16; TABLE], log: &[u32], verdicts: &mut [u64], wanted: u64, row: Option<(&Row, bool)>) -> (usize, Row) {
-    let words = &mut verdicts[..log.len()];
+fn judge_given(t: &[u16; TABLE], log: &[u32], words: &mut [Words], wanted: u128, row: Option<(&Row, bool)>) -> (usize, Row) {
     let mut known = Known { automaton: usize::MAX, looks: [false; 3], kind: room(), kinds: room(), count: 0 };
     let mut masks = room::<u16, 512>();
     let masks = filled(&mut masks[..log.len()], 0);
-    let mut next = [0; 64];
-    let nodes = t[1312] as usize;
-    words.fill(0);
+    let mut next = [0; NODES];
+    let nodes = t[COUNTS_AT] as usize;
+    words.fill([0; 2]);
     for k in (0..nodes).filter(|k| wanted >> k & 1 == 1) {
         let x = node(t, k);
         if x.letter != b'D' && x.letter != b'B' {
@@ -211,21 +214,22 @@ fn judge_given(t: &[u16; TABLE], log: &[u32], verdicts: &mut [u64], wanted: u64,
         let all = ((1u32 << m.states) - 1) as u16;
         let exits = row.map_or(0, |(r, _)| if some { r[k] } else { !r[k] } & all);
         mark(&known, (x.b, some), exits, words, masks);
+        let (word, at) = place(k);
         for (w, mask) in words.iter_mut().zip(masks.iter()) {
-            *w |= ((*mask as u64 >> (m.start & 15) & 1) ^ !some as u64) << k;
+            w[word] |= ((*mask as u64 >> (m.start & 15) & 1) ^ !some as u64) << at;
         }
         if let Some((_, ahead)) = row {
             let end = if ahead { masks.first() } else { masks.last() }.map_or(exits, |mask| *mask);
             next[k] = if some { end } else { !end & all };
         }
     }
-    (words.iter().map(|w| (w >> (nodes - 1) & 1) as usize).sum(), next)
+    (words.iter().map(|w| bit(w, nodes - 1) as usize).sum(), next)
 }
 
 /// The states from which a walk ends where the node is as wanted, or leaves the part into one of the exits.
 #[inline]
-fn mark(known: &Known, (node, some): (u8, bool), exits: u16, words: &[u64], masks: &mut [u16]) {
-    let seed = |i: usize| known.at(i).goal & 0u16.wrapping_sub(((words[i] >> (node & 63) & 1) ^ !some as u64) as u16);
+fn mark(known: &Known, (node, some): (u8, bool), exits: u16, words: &[Words], masks: &mut [u16]) {
+    let seed = |i: usize| known.at(i).goal & 0u16.wrapping_sub((bit(&words[i], node as usize) ^ !some as u64) as u16);
     match known.looks {
         [_, false, false] => (0..masks.len()).for_each(|i| masks[i] = seed(i)),
         [_, true, false] => {

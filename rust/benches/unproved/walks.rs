@@ -2,12 +2,12 @@
 //! enter a state until the start is met, and forward by the lowest edge that comes one nearer.
 use super::bitsets::Judging;
 use super::given::given;
-use super::{automaton, filled, node, room, stands_on, TABLE};
+use super::{automaton, filled, node, room, stands_on, AUTOMATA_AT, COUNTS_AT, NODES, TABLE};
 use std::mem::MaybeUninit;
 
 pub fn walk(t: &[u16; TABLE], log: &[u32], k: usize, i: usize, edges: &mut [u16]) -> Option<usize> {
     let n = log.len();
-    if !given(t) || n == 0 || n > 512 || k >= t[1312] as usize || i >= n || ![b'D', b'B'].contains(&node(t, k).letter) {
+    if !given(t) || n == 0 || n > 512 || k >= t[COUNTS_AT] as usize || i >= n || ![b'D', b'B'].contains(&node(t, k).letter) {
         return None;
     }
     if n <= 64 {
@@ -76,7 +76,7 @@ fn search<const B: usize>(t: &[u16; TABLE], log: &[u32], k: usize, i: usize, edg
     let (x, n) = (node(t, k), log.len());
     let mut judging = Judging::<B>::new(n);
     judging.nodes(t, log, stands_on(t, k), None);
-    let holds = |node: u16, j: usize| judging.bitset(node as usize & 63)[j / 64 % B] >> (j % 64) & 1 == 1;
+    let holds = |node: u16, j: usize| judging.bitset(node as usize % NODES)[j / 64 % B] >> (j % 64) & 1 == 1;
     let m = automaton(t, x.a as usize);
     let edge = |number: usize| &m.edges[4 * number..4 * number + 4];
 
@@ -104,7 +104,7 @@ fn search<const B: usize>(t: &[u16; TABLE], log: &[u32], k: usize, i: usize, edg
     if long == u16::MAX || edges.len() < long as usize {
         return None;
     }
-    let first = t[192 + 6 * x.a as usize + 3];
+    let first = t[AUTOMATA_AT + 6 * x.a as usize + 3];
     let leaving = Edges::by(m.edges, 0);
     let (mut s, mut j) = (m.start, i);
     for (place, left) in (0..long).rev().enumerate() {

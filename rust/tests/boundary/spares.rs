@@ -1,6 +1,6 @@
 //! Parts by sheets with nodes and automata that the rule does not stand on, and which ways the rule looks.
-use super::{judge, judge_part, plain_row, profile, refusal, rule_looks, table_of, W};
-use rozsvelen::{ROW, TABLE};
+use super::{few_nodes, judge, judge_part, plain_row, profile, refusal, row_of, rule_looks, table_of, W};
+use rozsvelen::{ROW, TABLE, WORDS};
 
 /// T, fact 1, and a D that goes back: fact 1 here or before.
 const BACK_D: &str = "T\nP,1\nM,1,0\nG,0\nE,0,2,0,0\nD,0,1\n";
@@ -17,6 +17,7 @@ struct Worked {
     looks: (u64, [u64; 2]),
     /// The nodes that the rule does not stand on.
     spare: &'static [usize],
+    /// Each entry's first word: the second is 0.
     words: [u64; 3],
     /// The numbers that are not 0, of the plain row and of the row that the part gives.
     rows: [&'static [(usize, u16)]; 2],
@@ -75,28 +76,21 @@ fn sheets_without_spares() -> Vec<Worked> {
     ]
 }
 
-/// A row of these numbers, and else of this one.
-fn row_of(numbers: &[(usize, u16)], other: u16) -> [u16; ROW] {
-    let mut row = [other; ROW];
-    numbers.iter().for_each(|(k, number)| row[*k] = *number);
-    row
-}
-
 #[test]
 fn a_spare_automaton_does_not_keep_a_log_from_being_cut() {
     for x in sheets_with_spares().into_iter().chain(sheets_without_spares()) {
         let numbers = table_of(x.sheet.as_bytes());
-        let (mut plain, mut whole) = ([7; ROW], [7; 4]);
+        let (mut plain, mut whole) = ([7; ROW], [7; 3 * WORDS + 1]);
         assert_eq!((plain_row(&numbers, &mut plain), plain), (0, row_of(x.rows[0], 0)), "plain row of {:?}", x.sheet);
         assert_eq!(rule_looks(&numbers), x.looks.0, "ways of {:?}", x.sheet);
         judge(&numbers, &[1, 2, 4], &mut whole);
-        assert_eq!(whole, [x.whole[0], x.whole[1], x.whole[2], 7], "{:?} on the whole log", x.sheet);
+        assert_eq!(whole[..], [few_nodes(&x.whole), vec![7]].concat(), "{:?} on the whole log", x.sheet);
         for (way, answer) in [(1, x.looks.1[0]), (2, x.looks.1[1])] {
-            let (mut row, mut verdicts) = (plain, [7; 4]);
+            let (mut row, mut verdicts) = (plain, [7; 3 * WORDS + 1]);
             let answered = judge_part(&numbers, way, &mut row, &[1, 2, 4], &mut verdicts);
-            let (words, next) = if answer == 0 { (x.words, row_of(x.rows[1], 0)) } else { ([7; 3], plain) };
+            let (words, next) = if answer == 0 { (few_nodes(&x.words), row_of(x.rows[1], 0)) } else { (vec![7; 3 * WORDS], plain) };
             assert_eq!((answered, row), (answer, next), "way {way} of {:?}", x.sheet);
-            assert_eq!(verdicts, [words[0], words[1], words[2], 7], "way {way} of {:?}", x.sheet);
+            assert_eq!(verdicts[..], [words, vec![7]].concat(), "way {way} of {:?}", x.sheet);
         }
     }
 }
@@ -108,12 +102,12 @@ fn row_bits_of_spare_nodes_are_ignored_and_returned_0() {
         let way = if x.looks == ONLY_BACK { 2 } else { 1 };
         let mut given = row_of(x.rows[0], 0);
         x.spare.iter().for_each(|k| given[*k] = u16::MAX);
-        let (mut row, mut verdicts) = (given, [7; 3]);
+        let (mut row, mut verdicts) = (given, vec![7; 3 * WORDS]);
         assert_eq!(judge_part(&numbers, way, &mut row, &[], &mut verdicts), 0, "{:?}", x.sheet);
-        assert_eq!((row, verdicts), (row_of(x.rows[0], 0), [7; 3]), "a part without entries, {:?}", x.sheet);
+        assert_eq!((row, &verdicts), (row_of(x.rows[0], 0), &vec![7; 3 * WORDS]), "a part without entries, {:?}", x.sheet);
         row = given;
         assert_eq!(judge_part(&numbers, way, &mut row, &[1, 2, 4], &mut verdicts), 0, "{:?}", x.sheet);
-        assert_eq!((row, verdicts), (row_of(x.rows[1], 0), x.words), "{:?}", x.sheet);
+        assert_eq!((row, verdicts), (row_of(x.rows[1], 0), few_nodes(&x.words)), "{:?}", x.sheet);
     }
 }
 
@@ -121,18 +115,18 @@ fn row_bits_of_spare_nodes_are_ignored_and_returned_0() {
 fn a_run_past_spare_row_bits_has_the_whole_logs_verdicts() {
     let numbers = table_of(U.as_bytes());
     let log = [1, 2, 4, 1, 2, 0];
-    let mut whole = [7; 6];
-    assert_eq!((judge(&numbers, &log, &mut whole), whole), (5, [9, 15, 13, 13, 15, 5]));
+    let mut whole = vec![7; 6 * WORDS];
+    assert_eq!((judge(&numbers, &log, &mut whole), &whole), (5, &few_nodes(&[9, 15, 13, 13, 15, 5])));
     // before each call every ignored bit is set: those of other nodes, and of states that automaton 0 has not
     let mut bit = 0;
     for (part, words, next) in [(5..6, &[1][..], 0), (3..5, &[9, 11], 1), (3..3, &[], 1), (0..3, &[9, 11, 9], 1)] {
         let mut row = row_of(&[(3, 0xfffe | bit)], u16::MAX);
-        let mut verdicts = vec![7; part.len()];
+        let mut verdicts = vec![7; WORDS * part.len()];
         assert_eq!(judge_part(&numbers, 1, &mut row, &log[part.clone()], &mut verdicts), 0, "entries {part:?}");
-        assert_eq!((&verdicts[..], row), (words, row_of(&[(3, next)], 0)), "entries {part:?}");
+        assert_eq!((&verdicts, row), (&few_nodes(words), row_of(&[(3, next)], 0)), "entries {part:?}");
         bit = row[3];
         // the rule stands on nodes 0, 1 and 3
-        let on_rule: Vec<u64> = whole[part].iter().map(|word| word & 0b1011).collect();
+        let on_rule: Vec<u64> = whole[WORDS * part.start..WORDS * part.end].iter().map(|word| word & 0b1011).collect();
         assert_eq!(on_rule, verdicts);
     }
 }
@@ -154,9 +148,9 @@ fn a_rule_that_looks_both_ways_is_34_both_ways() {
         let numbers = table_of(sheet.as_bytes());
         assert_eq!(rule_looks(&numbers), 3, "{sheet:?}");
         for way in [1, 2] {
-            let (mut row, mut verdicts) = ([7; ROW], [9; 3]);
+            let (mut row, mut verdicts) = ([7; ROW], [9; 3 * WORDS]);
             assert_eq!(judge_part(&numbers, way, &mut row, &[1, 2, 4], &mut verdicts), refusal(34, 0), "way {way} of {sheet:?}");
-            assert_eq!((row, verdicts), ([7; ROW], [9; 3]), "way {way} of {sheet:?}");
+            assert_eq!((row, verdicts), ([7; ROW], [9; 3 * WORDS]), "way {way} of {sheet:?}");
         }
     }
 }
@@ -164,11 +158,11 @@ fn a_rule_that_looks_both_ways_is_34_both_ways() {
 #[test]
 fn a_sheet_with_a_spare_automaton_is_asked_34_then_32_then_33() {
     let numbers = table_of(U.as_bytes());
-    let (mut row, mut verdicts) = ([7; ROW], [9; 2]);
+    let (mut row, mut verdicts) = ([7; ROW], [9; 3 * WORDS - 1]);
     assert_eq!(judge_part(&numbers, 2, &mut row, &[0; 513], &mut verdicts), refusal(34, 0));
     assert_eq!(judge_part(&numbers, 1, &mut row, &[0; 513], &mut verdicts), refusal(32, 0));
     assert_eq!(judge_part(&numbers, 1, &mut row, &[1, 2, 4], &mut verdicts), refusal(33, 0));
-    assert_eq!((row, verdicts), ([7; ROW], [9; 2]));
+    assert_eq!((row, verdicts), ([7; ROW], [9; 3 * WORDS - 1]));
 }
 
 #[test]
@@ -176,9 +170,9 @@ fn a_profile_looks_the_ways_that_its_sheet_looks() {
     let mut made = [7; TABLE];
     assert_eq!(profile(&table_of(U.as_bytes()), &mut made), 0);
     assert_eq!(rule_looks(&made), 1);
-    let (mut row, mut verdicts) = ([0; ROW], [9; 3]);
+    let (mut row, mut verdicts) = ([0; ROW], vec![9; 3 * WORDS]);
     // its rule is node 8, a D on node 2, fact 1; T, tested by its edge, is node 0
     assert_eq!(judge_part(&made, 1, &mut row, &[1, 2, 4], &mut verdicts), 0);
-    assert_eq!((row, verdicts), (row_of(&[(8, 1)], 0), [257, 261, 1]));
+    assert_eq!((row, &verdicts), (row_of(&[(8, 1)], 0), &few_nodes(&[257, 261, 1])));
     assert_eq!(judge_part(&made, 2, &mut row, &[1, 2, 4], &mut verdicts), refusal(34, 0));
 }

@@ -1,9 +1,9 @@
 //! What a verdict means, rows, and walks.
-use super::sheets::{Line, Sheet};
+use super::sheets::{Line, Sheet, NODES};
 use std::collections::BTreeMap;
 
 /// A row: bit s of number k.
-pub type Row = [u16; 64];
+pub type Row = [u16; NODES];
 
 /// A log or a part being judged: `holds[k][i]` for the nodes so far, the row beside it and which way it lies.
 pub struct Judged<'a> {
@@ -15,7 +15,7 @@ pub struct Judged<'a> {
 
 /// The row beside a whole log: all bits of a B set, all of a D clear, whether the rule stands on them or not.
 pub fn plain(sheet: &Sheet) -> Row {
-    let mut row = [0; 64];
+    let mut row = [0; NODES];
     for (k, line) in sheet.nodes.iter().enumerate() {
         if let Line::Every(m, _) = line {
             row[k] = mask(sheet.automata[*m].states);
@@ -27,6 +27,12 @@ pub fn plain(sheet: &Sheet) -> Row {
 /// A bit for each of so many states.
 pub fn mask(states: usize) -> u16 {
     ((1u32 << states) - 1) as u16
+}
+
+/// An entry's words, from its verdicts in the order of the nodes: they are the digits of one number, whose lower 64 make the first word.
+pub fn two_words(verdicts: impl Iterator<Item = bool>) -> [u64; 2] {
+    let number: u128 = verdicts.enumerate().map(|(k, holds)| u128::from(holds) << k).sum();
+    [number as u64, (number >> 64) as u64]
 }
 
 impl<'a> Judged<'a> {
@@ -114,9 +120,16 @@ impl<'a> Judged<'a> {
         all
     }
 
-    /// A word for each entry, bit k for node k.
+    /// Two words for each entry.
     pub fn words(&self) -> Vec<u64> {
-        (0..self.log.len()).map(|i| (0..self.holds.len()).map(|k| (self.holds[k][i] as u64) << k).sum()).collect()
+        self.words_of(|_| true)
+    }
+
+    /// The same with 0 for the nodes that are not wanted.
+    pub fn words_of(&self, is_wanted: impl Fn(usize) -> bool) -> Vec<u64> {
+        let wanted: Vec<bool> = (0..self.holds.len()).map(is_wanted).collect();
+        let words_at = |i: usize| two_words(self.holds.iter().zip(&wanted).map(|(column, wanted)| column[i] && *wanted));
+        (0..self.log.len()).flat_map(words_at).collect()
     }
 
     /// How many entries the last node holds at.
@@ -126,7 +139,7 @@ impl<'a> Judged<'a> {
 
     /// The row that the part gives, for all nodes.
     pub fn next_row(&self, ahead: bool) -> Row {
-        let mut row = [0; 64];
+        let mut row = [0; NODES];
         for (k, line) in self.sheet.nodes.iter().enumerate() {
             if let Line::Some(m, _) | Line::Every(m, _) = *line {
                 let states = self.sheet.automata[m].states;

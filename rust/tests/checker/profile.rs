@@ -1,6 +1,6 @@
 //! The plain profile, line by line: what a new line is, is asked of the old node alone, through its N lines down to what they stand on. No new
 //! line is taken from another new line.
-use super::sheets::{Automaton, Edge, Line, Sheet};
+use super::sheets::{Automaton, Edge, Line, Sheet, NODES};
 
 /// Whether each N line names a P line.
 pub fn in_profile(sheet: &Sheet) -> bool {
@@ -15,7 +15,7 @@ pub fn profile(sheet: &Sheet) -> Result<Sheet, u8> {
     let count = sheet.nodes.len();
     let mut nodes: Vec<Line> = (0..count).flat_map(|k| [same(sheet, k), opposite(sheet, k)]).collect();
     nodes.push(same(sheet, count - 1));
-    if nodes.len() > 64 {
+    if nodes.len() > NODES {
         return Err(42);
     }
     let edges = sheet.edges.iter().map(|e| Edge { test: 2 * e.test, ..*e }).collect();

@@ -1,7 +1,13 @@
 //! Questions 1 to 11, and question 31: a table is one that some sheet gives if its own lines, written out, read to it again.
 use super::{lines, number, No};
 
-pub const TABLE: usize = 1315;
+/// As many nodes as a sheet may have.
+pub const NODES: usize = 128;
+/// Where a table has its automata, its edges and its counts, and how many numbers it is.
+pub const AUTOMATA_AT: usize = 384;
+pub const EDGES_AT: usize = 480;
+pub const COUNTS_AT: usize = 1504;
+pub const TABLE: usize = 1507;
 
 #[derive(Clone, Copy, Debug, PartialEq, Eq)]
 pub enum Line {
@@ -87,7 +93,7 @@ impl Sheet {
             b'M' => self.automata.len() < 16,
             b'E' => self.edges.len() < 256,
             b'G' => true,
-            _ => self.nodes.len() < 64,
+            _ => self.nodes.len() < NODES,
         };
         if !room {
             return Err(5);
@@ -157,7 +163,7 @@ impl Sheet {
         self.nodes.push(node);
     }
 
-    /// The table's numbers: 64 node lines of letter and two operands, 16 automata of states, start, accepting states as bits, first edge, edges and
+    /// The table's numbers: 128 node lines of letter and two operands, 16 automata of states, start, accepting states as bits, first edge, edges and
     /// nodes above, 256 edges of four numbers, and how many nodes, automata and edges there are.
     pub fn numbers(&self) -> [u16; TABLE] {
         let mut t = [0u16; TABLE];
@@ -178,13 +184,13 @@ impl Sheet {
         for (m, x) in self.automata.iter().enumerate() {
             let bits: u32 = x.accepting.iter().map(|s| 1 << s).sum();
             let six = [x.states, x.start, bits as usize, first, x.edges.len(), x.nodes_above].map(|v| v as u16);
-            t[192 + 6 * m..198 + 6 * m].copy_from_slice(&six);
+            t[AUTOMATA_AT + 6 * m..][..6].copy_from_slice(&six);
             first += x.edges.len();
         }
         for (e, x) in self.edges.iter().enumerate() {
-            t[288 + 4 * e..292 + 4 * e].copy_from_slice(&[x.from, x.dir, x.test, x.to].map(|v| v as u16));
+            t[EDGES_AT + 4 * e..][..4].copy_from_slice(&[x.from, x.dir, x.test, x.to].map(|v| v as u16));
         }
-        t[1312..].copy_from_slice(&[self.nodes.len(), self.automata.len(), self.edges.len()].map(|v| v as u16));
+        t[COUNTS_AT..].copy_from_slice(&[self.nodes.len(), self.automata.len(), self.edges.len()].map(|v| v as u16));
         t
     }
 
@@ -203,14 +209,14 @@ pub fn given(t: &[u16; TABLE]) -> Option<Sheet> {
 
 /// The lines that a table's numbers would come from, as far as they can be written.
 fn written(t: &[u16; TABLE]) -> Option<String> {
-    let [nodes, automata, edges] = [t[1312] as usize, t[1313] as usize, t[1314] as usize];
-    if nodes > 64 || automata > 16 || edges > 256 {
+    let [nodes, automata, edges] = [0, 1, 2].map(|i| t[COUNTS_AT + i] as usize);
+    if nodes > NODES || automata > 16 || edges > 256 {
         return None;
     }
     let mut text = String::new();
     let mut next = 0;
     for k in 0..=nodes {
-        while next < automata && t[192 + 6 * next + 5] as usize == k {
+        while next < automata && t[AUTOMATA_AT + 6 * next + 5] as usize == k {
             text += &automaton(t, next)?;
             next += 1;
         }
@@ -229,13 +235,13 @@ fn written(t: &[u16; TABLE]) -> Option<String> {
 }
 
 fn automaton(t: &[u16; TABLE], m: usize) -> Option<String> {
-    let x = &t[192 + 6 * m..198 + 6 * m];
+    let x = &t[AUTOMATA_AT + 6 * m..][..6];
     let mut text = format!("M,{},{}\n", x[0], x[1]);
     for s in (0..16).filter(|s| x[2] >> s & 1 == 1) {
         text += &format!("G,{s}\n");
     }
     for e in x[3] as usize..x[3] as usize + x[4] as usize {
-        let e = t.get(288 + 4 * e..292 + 4 * e).filter(|_| e < 256)?;
+        let e = t.get(EDGES_AT + 4 * e..EDGES_AT + 4 * e + 4).filter(|_| e < 256)?;
         text += &format!("E,{},{},{},{}\n", e[0], e[1], e[2], e[3]);
     }
     Some(text)

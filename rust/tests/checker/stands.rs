@@ -1,6 +1,6 @@
 //! What the rule stands on, by recursion from the rule; which ways it looks by that; and what is left of a part's words and rows.
-use super::meaning::{mask, Row};
-use super::sheets::{Line, Sheet};
+use super::meaning::{mask, Judged, Row};
+use super::sheets::{Line, Sheet, NODES};
 use std::collections::BTreeSet;
 
 /// The nodes and the automata that a sheet's rule stands on.
@@ -51,8 +51,8 @@ impl<'a> Stands<'a> {
     }
 
     /// The words of a part: bits of spare nodes are 0.
-    pub fn words(&self, words: Vec<u64>) -> Vec<u64> {
-        words.into_iter().map(|word| self.nodes.iter().map(|k| word & 1 << k).sum()).collect()
+    pub fn words(&self, part: &Judged) -> Vec<u64> {
+        part.words_of(|k| self.nodes.contains(&k))
     }
 
     /// A row as it is returned: the bits that count are as in this one, the ignored ones are 0.
@@ -63,7 +63,7 @@ impl<'a> Stands<'a> {
 
     /// The bits of a row that count: those of states of the D and B nodes that the rule stands on.
     pub fn counting(&self) -> Row {
-        let mut row = [0; 64];
+        let mut row = [0; NODES];
         for &k in &self.nodes {
             if let Line::Some(m, _) | Line::Every(m, _) = self.sheet.nodes[k] {
                 row[k] = mask(self.sheet.automata[m].states);

@@ -1,5 +1,5 @@
 //! Many logs of one sheet judged in one call.
-use super::{no, Table};
+use super::{no, Table, SECOND};
 use crate::checker::meaning::{plain, Judged};
 use crate::checker::sheets::Sheet;
 use crate::checker::No;
@@ -28,11 +28,11 @@ impl Logs<'_> {
         }
         let mut room = self.rooms[0];
         for (number, n) in (1..).zip(self.lengths) {
-            let n = *n as usize;
-            if n > room || number as usize > self.rooms[1] {
+            let places = 2 * *n as usize;
+            if places > room || number as usize > self.rooms[1] {
                 return Err((33, number));
             }
-            room -= n;
+            room -= places;
         }
         Ok(sheet)
     }
@@ -70,6 +70,7 @@ pub fn compare_logs(kinds: &mut Kinds, table: &Table, logs: &Logs) -> bool {
             assert!(verdicts == [&theirs.0, &before.0[theirs.0.len()..]].concat(), "verdicts, {}", case());
             assert!(held == [&theirs.1, &before.1[theirs.1.len()..]].concat(), "held, {}", case());
             kinds_of_logs(kinds, logs);
+            kinds.saw_if(logs.lengths.len() > 1 && sheet.nodes.len() > SECOND, "judge_logs: several logs of a rule above 63");
             true
         }
     }
@@ -84,7 +85,7 @@ fn kinds_of_logs(kinds: &mut Kinds, logs: &Logs) {
     });
     kinds.saw_if(logs.lengths.contains(&512), "judge_logs: log of 512 entries");
     kinds.saw_if(logs.words.len() > 512, "judge_logs: more than 512 entries in all");
-    kinds.saw_if(logs.rooms[0] > logs.words.len(), "judge_logs: places beyond the verdicts kept");
+    kinds.saw_if(logs.rooms[0] > 2 * logs.words.len(), "judge_logs: places beyond the verdicts kept");
     kinds.saw_if(logs.rooms[1] > logs.lengths.len(), "judge_logs: places beyond the counts kept");
 }
 
@@ -98,8 +99,9 @@ fn kinds_of_refusal(kinds: &mut Kinds, logs: &Logs, (number, line): No) {
             Some(513..) => "judge_logs: 32 of more than 512 entries",
             Some(_) => "judge_logs: 32 of entries that are not there",
         }),
-        33 => kinds.saw(if logs.rooms[0] < logs.words.len() { "judge_logs: 33 of the verdicts" } else { "judge_logs: 33 of the counts" }),
+        33 => kinds.saw(if logs.rooms[0] < 2 * logs.words.len() { "judge_logs: 33 of the verdicts" } else { "judge_logs: 33 of the counts" }),
         _ => (),
     }
     kinds.saw_if(number == 32 && (2..=65_535).contains(&line), "judge_logs: 32 of a log after the first");
+    kinds.saw_if(number == 33 && logs.rooms[0] + 1 == 2 * logs.words.len(), "judge_logs: 33 of one place too few");
 }

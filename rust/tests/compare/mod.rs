@@ -9,9 +9,12 @@ pub mod profile;
 pub mod texts;
 pub mod walks;
 
-use crate::checker::meaning::{plain, Judged};
+use crate::checker::meaning::{plain, Judged, Row};
 use crate::checker::{sheets, No};
 use rozsvelen::{Refused, Sheet};
+
+/// The first node whose verdicts are in an entry's second word.
+const SECOND: usize = 64;
 
 /// A table as it is lent, and the sheet that gives it, if one does.
 pub struct Table {
@@ -42,6 +45,16 @@ impl Table {
             Err(32)
         }
     }
+}
+
+/// Whether an edge of these automata tests a node above 63.
+fn tests_second(sheet: &sheets::Sheet, mut automata: impl Iterator<Item = usize>) -> bool {
+    automata.any(|m| sheet.automata[m].edges.iter().any(|e| sheet.edges[*e].test >= SECOND))
+}
+
+/// Whether a number of a node above 63 is not 0.
+fn sets_second(row: &Row) -> bool {
+    row[SECOND..].iter().any(|number| *number != 0)
 }
 
 fn no(r: Refused) -> No {

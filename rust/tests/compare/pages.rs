@@ -1,6 +1,7 @@
 //! Pages, in a buffer that takes every page and in one of a given length.
 use super::no;
-use super::texts::has_padded;
+use super::texts::{has_padded, nodes_of};
+use super::SECOND;
 use crate::checker::pages;
 use crate::kinds::Kinds;
 
@@ -16,7 +17,9 @@ pub fn compare_page(kinds: &mut Kinds, rules: &[u8], steps: &[u8], room: usize) 
     match theirs {
         Err((q, _)) => kinds.refused("page", q),
         Ok(text) => {
-            kinds.saw(if text.ends_with("walk,none\n") { "page: without a walk" } else { "page: with a walk" });
+            let shown = !text.ends_with("walk,none\n");
+            kinds.saw(if shown { "page: with a walk" } else { "page: without a walk" });
+            kinds.saw_if(shown && nodes_of(rules) > SECOND, "page: with a walk of a rule above 63");
             kinds.saw_if(has_padded(rules, 2..=3), "page: verdicts of a padded sheet");
             kinds.saw_if(has_padded(steps, 2..=3), "page: verdicts of a padded log");
             kinds.saw_if(text.contains(",of,512\nwalk,8191,"), "page: of 512 entries and 8191 edges");

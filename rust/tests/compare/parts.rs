@@ -1,7 +1,7 @@
 //! Parts judged, and runs of them.
-use super::{no, Table};
+use super::{no, sets_second, tests_second, Table, SECOND};
 use crate::checker::meaning::{plain, Judged, Row};
-use crate::checker::sheets::Line;
+use crate::checker::sheets::{Line, NODES};
 use crate::checker::stands::Stands;
 use crate::kinds::Kinds;
 use rozsvelen::Way;
@@ -22,7 +22,7 @@ impl Part<'_> {
             Err(34)
         } else if self.words.len() > 512 {
             Err(32)
-        } else if self.room < self.words.len() {
+        } else if self.room < 2 * self.words.len() {
             Err(33)
         } else {
             Ok(stands)
@@ -42,16 +42,18 @@ pub fn compare_part(kinds: &mut Kinds, table: &Table, part: &Part) -> Option<(Ve
             assert_eq!(answer, Err((q, 0)), "{}", case());
             assert_eq!(buffer, before, "{}", case());
             kinds.refused("judge_part", q);
+            kinds.saw_if(q == 33 && part.room == 2 * part.words.len() - 1, "judge_part: 33 of one place too few");
             None
         }
         Ok(stands) => {
             let judged = Judged::new(stands.sheet, part.words, part.row);
             let next = stands.row(judged.next_row(part.ahead));
-            let verdicts = stands.words(judged.words());
+            let verdicts = stands.words(&judged);
             assert_eq!(answer, Ok(next), "the row of a part, {}", case());
             assert_eq!(buffer, [&verdicts, &before[verdicts.len()..]].concat(), "a part, {}", case());
             kinds_of_part(kinds, part);
             kinds_of_spares(kinds, &stands, part);
+            kinds_of_second(kinds, &stands, part, &next);
             Some((verdicts, next))
         }
     }
@@ -61,7 +63,7 @@ fn kinds_of_part(kinds: &mut Kinds, part: &Part) {
     kinds.saw(if part.ahead { "judge_part: ahead" } else { "judge_part: back" });
     kinds.saw_if(part.words.is_empty(), "judge_part: no entry");
     kinds.saw_if(part.words.len() == 512, "judge_part: 512 entries");
-    kinds.saw_if(part.room > part.words.len(), "judge_part: places beyond the verdicts kept");
+    kinds.saw_if(part.room > 2 * part.words.len(), "judge_part: places beyond the verdicts kept");
 }
 
 fn kinds_of_spares(kinds: &mut Kinds, stands: &Stands, part: &Part) {
@@ -83,6 +85,14 @@ fn kinds_of_spares(kinds: &mut Kinds, stands: &Stands, part: &Part) {
     kinds.saw_if(spare_looks && stands.looks() != [false, false], other_way);
 }
 
+fn kinds_of_second(kinds: &mut Kinds, stands: &Stands, part: &Part, next: &Row) {
+    let set = if part.ahead { "judge_part: ahead, row number above 63 set" } else { "judge_part: back, row number above 63 set" };
+    kinds.saw_if(stands.sheet.nodes.len() > SECOND, "judge_part: rule above 63");
+    kinds.saw_if(sets_second(&stands.row(part.row)), "judge_part: row number above 63 given");
+    kinds.saw_if(sets_second(next), set);
+    kinds.saw_if(tests_second(stands.sheet, stands.automata.iter().copied()), "judge_part: edge tests a node above 63");
+}
+
 /// Parts of a run, each with the places lent for its verdicts; and the bits that each call finds in the ignored places of its row.
 pub struct Run<'a> {
     pub ahead: bool,
@@ -102,6 +112,7 @@ pub fn compare_run(kinds: &mut Kinds, table: &Table, run: &Run) -> usize {
         match compare_part(kinds, table, &Part { ahead: run.ahead, row: given, words, room: *room }) {
             None => kinds.saw("run: a refused call among them"),
             Some((part, next)) => {
+                kinds.saw_if(!joined.is_empty() && !words.is_empty() && sets_second(&row), "run: row number above 63 handed on");
                 row = next;
                 let (words, part) = (&words[..], &part[..]);
                 (joined, verdicts) = if run.ahead {
@@ -114,10 +125,10 @@ pub fn compare_run(kinds: &mut Kinds, table: &Table, run: &Run) -> usize {
     }
     let whole = Judged::new(stands.sheet, &joined, plain(stands.sheet));
     let case = || format!("{:?} joined {joined:?} ignored {:?}", stands.sheet, run.ignored);
-    assert_eq!(verdicts, stands.words(whole.words()), "a run, {}", case());
+    assert_eq!(verdicts, stands.words(&whole), "a run, {}", case());
     assert_eq!(row, stands.row(whole.next_row(run.ahead)), "a run's row, {}", case());
     kinds.saw("run: equal to the whole log");
-    kinds.saw_if(run.ignored != [0; 64], "run: ignored bits of the row set");
+    kinds.saw_if(run.ignored != [0; NODES], "run: ignored bits of the row set");
     kinds.saw_if(joined.len() > 512, "run: more than 512 entries");
     joined.len()
 }

@@ -1,7 +1,7 @@
 //! The plain profile of a table, the verdicts of its nodes, and whether a table is in the profile.
 use super::looks::compare_looks;
-use super::{no, Table};
-use crate::checker::meaning::Judged;
+use super::{no, Table, SECOND};
+use crate::checker::meaning::{two_words, Judged};
 use crate::checker::profile;
 use crate::checker::sheets::{Line, Sheet};
 use crate::kinds::Kinds;
@@ -40,22 +40,22 @@ fn compare_in_profile(kinds: &mut Kinds, table: &Table) -> Option<bool> {
     ours.ok()
 }
 
-/// The product's verdicts by a profile are the independent checker's by the sheet that the profile was made of: those of old node k at bit 2k, the
-/// opposite ones at bit 2k + 1, and the rule's at the last.
+/// The product's verdicts by a profile are the independent checker's by the sheet that the profile was made of: those of old node k at node 2k, the
+/// opposite ones at node 2k + 1, and the rule's at the last.
 fn compare_verdicts(made: &Table, old: &Judged) {
-    let mut verdicts = vec![0; old.log.len()];
+    let mut verdicts = vec![0; 2 * old.log.len()];
     let held = rozsvelen::judge(&made.ours, old.log, &mut verdicts).map_err(no);
     let case = || format!("by the profile of {:?} log {:?}", old.sheet, old.log);
     assert_eq!(held, Ok(old.held()), "held count {}", case());
-    let wanted: Vec<u64> = (0..old.log.len()).map(|i| doubled(old, i)).collect();
+    let wanted: Vec<u64> = (0..old.log.len()).flat_map(|i| doubled(old, i)).collect();
     assert_eq!(verdicts, wanted, "verdicts {}", case());
 }
 
-/// The word of a profile at an entry, from the verdicts of the old nodes.
-fn doubled(old: &Judged, i: usize) -> u64 {
-    let both: Vec<bool> = old.holds.iter().flat_map(|column| [column[i], !column[i]]).collect();
+/// The words of a profile at an entry, from the verdicts of the old nodes.
+fn doubled(old: &Judged, i: usize) -> [u64; 2] {
+    let both = old.holds.iter().flat_map(|column| [column[i], !column[i]]);
     let rule = old.holds.last().map(|column| column[i]);
-    both.into_iter().chain(rule).enumerate().map(|(k, holds)| (holds as u64) << k).sum()
+    two_words(both.chain(rule))
 }
 
 fn kinds_of_sheet(kinds: &mut Kinds, sheet: &Sheet) {
@@ -67,5 +67,6 @@ fn kinds_of_sheet(kinds: &mut Kinds, sheet: &Sheet) {
     kinds.saw_if(nodes.iter().filter_map(under).any(|l| matches!(l, Line::Not(_))), "profile: of a sheet with an N on an N");
     kinds.saw_if(matches!(rule_under, Some(Line::Some(..) | Line::Every(..))), "profile: of a sheet whose rule is an N on a D or B");
     kinds.saw_if(sheet.edges.iter().any(|e| matches!(nodes[e.test], Line::Not(_))), "profile: an edge that tests an N line");
-    kinds.saw_if(nodes.len() == 31, "profile: of 31 nodes");
+    kinds.saw_if(2 * nodes.len() > SECOND, "profile: has nodes above 63");
+    kinds.saw_if(nodes.len() == 63, "profile: of 63 nodes");
 }

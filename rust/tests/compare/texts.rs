@@ -16,6 +16,11 @@ pub fn has_padded(text: &[u8], digits: RangeInclusive<usize>) -> bool {
     text.split(|b| b",\n".contains(b)).any(|f| digits.contains(&f.len()) && f[0] == b'0' && f.iter().all(u8::is_ascii_digit))
 }
 
+/// How many lines of a sheet are nodes.
+pub fn nodes_of(text: &[u8]) -> usize {
+    text.split(|b| *b == b'\n').filter(|line| line.first().is_some_and(|b| b"TFPNAODB".contains(b))).count()
+}
+
 /// The line of a text that a refusal names.
 fn named(text: &[u8], line: u32) -> &[u8] {
     text.split(|b| *b == b'\n').nth(line as usize - 1).unwrap()
@@ -30,10 +35,12 @@ pub fn compare_sheet(kinds: &mut Kinds, text: &[u8]) {
         Ok(_) => {
             kinds.saw("read_sheet: read");
             kinds.saw_if(has_padded(text, 2..=3), "read_sheet: read with a padded number");
+            kinds.saw_if(nodes_of(text) == sheets::NODES, "read_sheet: read with 128 nodes");
         }
         Err((q, line)) => {
             kinds.refused("read_sheet", q);
             kinds.saw_if(q == 4 && has_padded(named(text, line), 4..=4), "read_sheet: 4 of a padded number of four digits");
+            kinds.saw_if(q == 5 && nodes_of(named(text, line)) == 1, "read_sheet: 5 of a node");
         }
     }
 }

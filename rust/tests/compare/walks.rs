@@ -1,7 +1,7 @@
 //! Walks shown.
-use super::{no, Table};
+use super::{no, Table, SECOND};
 use crate::checker::meaning::Judged;
-use crate::checker::sheets::Line;
+use crate::checker::sheets::{Line, NODES};
 use crate::kinds::Kinds;
 
 /// Shows the walk of node `k` at entry `i` in a buffer of `room` places; whether there was one.
@@ -13,11 +13,13 @@ pub fn compare_walk(kinds: &mut Kinds, table: &Table, log: &[u32], judged: &Resu
     let case = || format!("walk of node {k} at {i} in {room} places, {:?} log {log:?}", table.theirs);
     assert_eq!(shown, theirs.as_ref().map(Vec::len).map_err(|q| (*q, 0)), "{}", case());
     let walk = theirs.unwrap_or_default();
+    let tested = |e: u16| table.sheet().unwrap().edges[e as usize].test;
     assert_eq!(edges, [&walk, &before[walk.len()..]].concat(), "{}", case());
     match shown {
         Err((q, _)) => {
             kinds.refused("walk", q);
             kinds.saw_if(q == 36 && k > 255, "walk: 36 of a number above 255");
+            kinds.saw_if(q == 36 && k == NODES, "walk: 36 of number 128");
             kinds.saw_if(q == 37 && i > 65535, "walk: 37 of a number above 65535");
         }
         Ok(n) => {
@@ -28,6 +30,8 @@ pub fn compare_walk(kinds: &mut Kinds, table: &Table, log: &[u32], judged: &Resu
             kinds.saw_if(n == 8191, "walk: of 8191 edges");
             kinds.saw_if(room > 99, "walk: more than 99 places lent");
             kinds.saw_if(room > n, "walk: places beyond the walk kept");
+            kinds.saw_if(k >= SECOND, "walk: of a node above 63");
+            kinds.saw_if(walk.iter().any(|e| tested(*e) >= SECOND), "walk: by an edge that tests a node above 63");
         }
     }
     shown.is_ok()

@@ -2,10 +2,9 @@
 use Prim.Native.Nat.{_-_, _≤_}
 use borrow.Author.Needs.{needs}
 use denote.Ref.{now}
-use lib.ListN.{length}
 use mathlib.Core.Path.{ap}
 use native.Mathlib.Omega.{arith}
-use Rattle.lines.specs.Lines.{entriesBelow}
+use Rattle.lines.specs.Lines.{entriesIn, entriesBelow}
 use Rattle.appending.specs.Appending.{Appends}
 use Rattle.appending.proofs.Storing.{appends-none, appends-then, appends-same}
 use Rattle.lines.proofs.Passed.{entries-next}
@@ -13,20 +12,14 @@ use Rattle.lines.proofs.put_entries.Statement.{statement}
 use Rattle.lines.proofs.put_entries.Tie as tie
 
 abbrev Inv-loop : tie.InvT-loop
-Inv-loop out₀ at words rule next₀ i₀ out next i = (i ≤ length words) × Appends (entriesBelow (rule .0) words i) out₀ at out next
+Inv-loop out₀ at words rule n next₀ i₀ out next i = (i ≤ entriesIn words) × Appends (entriesBelow (rule .0) words i) out₀ at out next
 
 abbrev μ-loop : tie.MeasureT-loop
-μ-loop out₀ at words rule next₀ i₀ out next i = length words - i
+μ-loop out₀ at words rule n next₀ i₀ out next i = entriesIn words - i
 
 loop-holds : tie.Need-loop-holds Inv-loop μ-loop
 unfolding entriesBelow
 loop-holds c = (omega arith, appends-none (now (c .before .before .args .out)) (c .before .before .args .at))
-
-mul-verdict-digit : tie.Need-mul-verdict-digit Inv-loop μ-loop
-mul-verdict-digit c = omega arith
-
-shared-slice-read-verdict-digit : tie.Need-shared-slice-read-verdict-digit Inv-loop μ-loop
-shared-slice-read-verdict-digit c = omega arith
 
 verdict-digit-requires : tie.Need-verdict-digit-requires Inv-loop μ-loop
 verdict-digit-requires c κs = search needs
@@ -42,9 +35,9 @@ loop-less c = omega arith
 
 loop-again : tie.Need-loop-again Inv-loop μ-loop
 loop-again c =
-    let l = c .before .before .before .before .before .before .before .loop in
-    let a = c .before .before .before .before .before .before .before .before .before .before .args in
-    (omega arith, appends-same (entries-next (a .rule .0) (now (a .words)) (l .i) (c .before .before .before .before .verdict-digit .result) (c .before .before .before .before .verdict-digit .ensures)) (appends-then (l .inv .1) (c .before .before .put-entry .ensures)))
+    let l = c .before .before .before .before .before .before .loop in
+    let a = c .before .before .before .before .before .before .before .before .before .args in
+    (omega (arith, c .before .before .before .before .before .loop-test .taken), appends-same (entries-next (a .rule .0) (now (a .words)) (l .i) (c .before .before .before .before .verdict-digit .result) (c .before .before .before .before .verdict-digit .ensures)) (appends-then (l .inv .1) (c .before .before .put-entry .ensures)))
 
 same-length : tie.Need-same-length Inv-loop μ-loop
 same-length c = c .before .loop .inv .1 .size
@@ -62,8 +55,6 @@ put-entries-spec =
     Inv-loop
     μ-loop
     loop-holds
-    mul-verdict-digit
-    shared-slice-read-verdict-digit
     verdict-digit-requires
     put-entry-requires
     add-i

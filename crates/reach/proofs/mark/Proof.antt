@@ -3,6 +3,7 @@ use Prim.Native.Nat.{ℕ}
 use Rattle.reach.proofs.Goals.{marking-start, reaching}
 use Rattle.reach.proofs.Turns.{swept-all}
 use Rattle.reach.specs.Columns.{Placed}
+use Rattle.reach.specs.Marks.{paired}
 use borrow.Author.Tests.{not-true}
 use denote.Ref.{now}
 use lib.ListN.{length}
@@ -34,7 +35,7 @@ same-length c = search needs
 returns : tie.Need-returns
 returns c = let S = c .before .before .before .before .before .before .before .before .before .before .before .before .before in
     let g = S .args .goal in
-    let W = now (S .args .words) in
+    let W = paired (now (S .args .words)) in
     let r = c .before .before .before .before .before .before .before .before .seed in
     let seeds = r .last .1 .1 .0 in
     λ E f told F. reaching E f g W seeds _ (r .ensures)
@@ -53,7 +54,7 @@ same-length-2 c = search needs
 returns-2 : tie.Need-returns-2
 returns-2 c = let S = c .before .before .before .before .before .before .before .before .before .before .before .before .before .before .before .before .before in
     let g = S .args .goal in
-    let W = now (S .args .words) in
+    let W = paired (now (S .args .words)) in
     let r = c .before .before .before .before .before .before .before .before .before .before .before .before .seed in
     let seeds = r .last .1 .1 .0 in
     λ E f told F. reaching E f g W seeds _ (r .ensures)

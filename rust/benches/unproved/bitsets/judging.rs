@@ -1,11 +1,11 @@
 //! A log being judged, node by node: the bitsets of the nodes so far.
 use super::bits::{fact, transpose, Bitset};
 use super::marking::Marking;
-use crate::unproved::{automaton, node, room, Automaton, Row, TABLE};
+use crate::unproved::{automaton, node, room, Automaton, Row, Words, COUNTS_AT, NODES, TABLE};
 use std::mem::MaybeUninit;
 
 /// A bitset for each node, and after them one for each group of edges that differ only in the node tested (at least two of the 256 edges each).
-const BITSETS: usize = 64 + 128;
+const BITSETS: usize = NODES + 128;
 
 /// A log being judged.
 pub struct Judging<const B: usize> {
@@ -51,9 +51,9 @@ impl<const B: usize> Judging<B> {
     }
 
     /// Judges the wanted nodes in order, each of which stands on wanted ones; with a row beside a part, gives the part's own.
-    pub fn nodes(&mut self, t: &[u16; TABLE], log: &[u32], wanted: u64, row: Option<(&Row, bool)>) -> Row {
-        let mut next = [0; 64];
-        for k in (0..t[1312] as usize).filter(|k| wanted >> k & 1 == 1) {
+    pub fn nodes(&mut self, t: &[u16; TABLE], log: &[u32], wanted: u128, row: Option<(&Row, bool)>) -> Row {
+        let mut next = [0; NODES];
+        for k in (0..t[COUNTS_AT] as usize).filter(|k| wanted >> k & 1 == 1) {
             let x = node(t, k);
             let (a, b) = (x.a as usize, x.b as usize);
             let bitset = match x.letter {
@@ -83,9 +83,9 @@ impl<const B: usize> Judging<B> {
         self.edges.automaton = number;
         self.edges.into = [0; 16];
         self.edges.leaves = [[0; B]; 16];
-        let mut groups = 64;
+        let mut groups = NODES;
         for e in m.edges.chunks_exact(4) {
-            let (from, dir, test, to) = (e[0] as usize & 15, e[1] as usize % 3, e[2] as usize & 63, e[3] as usize & 15);
+            let (from, dir, test, to) = (e[0] as usize & 15, e[1] as usize % 3, e[2] as usize % NODES, e[3] as usize & 15);
             for w in 0..B {
                 self.edges.leaves[from][w] |= self.bitset(test)[w];
             }
@@ -97,7 +97,7 @@ impl<const B: usize> Judging<B> {
             }
             let old = self.edges.test(to, at);
             let either = std::array::from_fn(|w| self.bitset(old)[w] | self.bitset(test)[w]);
-            if old >= 64 {
+            if old >= NODES {
                 self.bitsets[old].write(either);
             } else if old != test {
                 self.bitsets[groups].write(either);
@@ -129,23 +129,30 @@ impl<const B: usize> Judging<B> {
         (turned(&marking.marks[m.start]), number)
     }
 
-    /// A word for each entry, bit k for node k, of nodes that were judged.
-    pub(super) fn write(&self, nodes: u64, words: &mut [u64]) {
+    /// The words of each entry, of nodes that were judged.
+    pub(super) fn write(&self, nodes: u128, words: &mut [Words]) {
+        self.write_word(0, nodes as u64, words);
+        self.write_word(1, (nodes >> 64) as u64, words);
+    }
+
+    /// One of the words of each entry: bit k for its node k.
+    #[inline(always)]
+    fn write_word(&self, word: usize, nodes: u64, words: &mut [Words]) {
         let is_one = |k: &usize| nodes >> k & 1 == 1;
         if words.len() * nodes.count_ones() as usize <= 512 {
-            words.fill(0);
+            words.iter_mut().for_each(|w| w[word] = 0);
             for k in (0..64 - nodes.leading_zeros() as usize).filter(is_one) {
-                let bitset = self.bitset(k);
+                let bitset = self.bitset(64 * word + k);
                 for (i, w) in words.iter_mut().enumerate() {
-                    *w |= (bitset[i / 64] >> (i % 64) & 1) << k;
+                    w[word] |= (bitset[i / 64] >> (i % 64) & 1) << k;
                 }
             }
             return;
         }
         for (b, words) in words.chunks_mut(64).enumerate() {
-            let mut square = std::array::from_fn(|k| if is_one(&k) { self.bitset(k)[b] } else { 0 });
+            let mut square = std::array::from_fn(|k| if is_one(&k) { self.bitset(64 * word + k)[b] } else { 0 });
             transpose(&mut square);
-            words.copy_from_slice(&square[..words.len()]);
+            words.iter_mut().zip(&square).for_each(|(w, column)| w[word] = *column);
         }
     }
 }

@@ -1,7 +1,7 @@
 -- `judge_each` meets its contract: the first k logs are judged, each at its place. Assumes nothing.
 use Prim.Native.Nat.{_-_, _+_}
 use native.Mathlib.Omega.{arith}
-use mathlib.Core.Path.{_≡_, sym, _∙_}
+use mathlib.Core.Path.{_≡_}
 use lib.ListN.{length, getD, take, drop}
 use denote.Ref.{now}
 use Rattle.aldlf.specs.Sheet.{sheetOf}
@@ -85,6 +85,12 @@ part-judge-one-end c = let there = known (c .before) .log .there in search needs
 mul-judge-one-2 : tie.Need-mul-judge-one-2 Inv-loop μ-loop
 mul-judge-one-2 c = let t = known (c .before .before) .verdicts-room in let e = long (c .before .before .before) in search needs
 
+mul-judge-one-3 : tie.Need-mul-judge-one-3 Inv-loop μ-loop
+mul-judge-one-3 c = let t = known (c .before .before) .verdicts-room in let e = long (c .before .before .before) in search needs
+
+mul-judge-one-4 : tie.Need-mul-judge-one-4 Inv-loop μ-loop
+mul-judge-one-4 c = let t = known (c .before .before) .verdicts-room in let e = long (c .before .before .before) in search needs
+
 sub-judge-one-2 : tie.Need-sub-judge-one-2 Inv-loop μ-loop
 sub-judge-one-2 c = search needs
 
@@ -103,7 +109,7 @@ judge-one-requires c κs =
     let n = cut (c .before .before .before) in
     let w = S .pre .0 in
     let v = room-long (sheetOf (w .0)) (now (a .words)) (now (a .lengths)) (now (a .verdicts)) (now (a .held)) (l .verdicts) (l .held) (l .at) (l .k) (l .inv (w .0) (w .1)) (c .before .before .before .loop-test .taken) in
-    (S .pre .0, (omega (arith, t .log .few, n), v ∙ sym n))
+    (S .pre .0, (omega (arith, t .log .few, n), v))
 
 cast-held : tie.Need-cast-held Inv-loop μ-loop
 cast-held c =
@@ -167,6 +173,8 @@ judge-each-spec =
     part-judge-one-start
     part-judge-one-end
     mul-judge-one-2
+    mul-judge-one-3
+    mul-judge-one-4
     sub-judge-one-2
     part-judge-one-start-2
     part-judge-one-end-2

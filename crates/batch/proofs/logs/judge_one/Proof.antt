@@ -4,7 +4,7 @@ use lib.ListN.{length, drop-of-length-le}
 use mathlib.Core.List.{List, _++_, append-nil}
 use mathlib.Core.Path.{_∙_, ap}
 use native.Mathlib.Omega.{arith}
-use Prim.Native.Nat.{ℕ, _≤_}
+use Prim.Native.Nat.{ℕ, _*_, _≤_}
 use Rattle.aldlf.specs.Sheet.{sheetOf}
 use Rattle.aldlf.specs.Outcomes.{logWords}
 use borrow.Author.Needs.{needs}
@@ -20,7 +20,7 @@ same-length c = search needs
 returns : tie.Need-returns
 returns c = let S = c .before .before .before .before .before .before .before in
     let r = c .before .before .judge-log .ensures in
-    let all : length (now (S .args .verdicts)) ≤ length (now (S .args .log)) = omega (arith, S .pre .1 .1) in
+    let all : length (now (S .args .verdicts)) ≤ 2 * length (now (S .args .log)) = omega (arith, S .pre .1 .1) in
     (λ t P. r .1 t P ∙ ap (λ (l : List ℕ). logWords (sheetOf t) (now (S .args .log)) ++ l) (drop-of-length-le (now (S .args .verdicts)) all) ∙ append-nil (logWords (sheetOf t) (now (S .args .log))), r .0)
 
 pub judge-one-spec : {M : Type 1} → statement M

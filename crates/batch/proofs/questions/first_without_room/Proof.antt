@@ -1,5 +1,5 @@
 -- `first_without_room` meets its contract: what is found from log k on is what is found in the whole list. Assumes nothing.
-use Prim.Native.Nat.{_+_, _-_, _≤_}
+use Prim.Native.Nat.{_+_, _*_, _-_, _≤_}
 use native.Mathlib.Numerals.{add-one}
 use native.Mathlib.Omega.{arith}
 use mathlib.Core.Path.{_≡_, refl, sym, _∙_}
@@ -14,7 +14,7 @@ use Rattle.batch.proofs.questions.first_without_room.Statement.{stateme
 use Rattle.batch.proofs.questions.first_without_room.Tie as tie
 
 abbrev Inv-loop : tie.InvT-loop
-Inv-loop lengths verdicts held at₀ k₀ at k = (k ≤ length lengths) × (at ≤ verdicts) × (roomless verdicts held lengths ≡ firstLog (hasRoom verdicts held) k at (drop k lengths))
+Inv-loop lengths verdicts held at₀ k₀ at k = (k ≤ length lengths) × (2 * at ≤ verdicts) × (roomless verdicts held lengths ≡ firstLog (hasRoom verdicts held) k at (drop k lengths))
 
 abbrev μ-loop : tie.MeasureT-loop
 μ-loop lengths verdicts held at₀ k₀ at k = length lengths - k
@@ -23,7 +23,7 @@ abbrev μ-loop : tie.MeasureT-loop
 has : (c : tie.Else1 Inv-loop μ-loop) → let l = c .before .before .before .before .loop in let a = c .before .before .before .before .before .before .args in hasRoom (a .verdicts) (a .held) (l .k) (l .at) (getD (now (a .lengths)) (l .k) 0) ≡ true
 has c = sym (c .before .room-here .ensures) ∙ not-false _ (c .if1 .left)
 
-within : (c : tie.Else1 Inv-loop μ-loop) → let l = c .before .before .before .before .loop in let a = c .before .before .before .before .before .before .args in l .at + getD (now (a .lengths)) (l .k) 0 ≤ a .verdicts
+within : (c : tie.Else1 Inv-loop μ-loop) → let l = c .before .before .before .before .loop in let a = c .before .before .before .before .before .before .args in 2 * (l .at + getD (now (a .lengths)) (l .k) 0) ≤ a .verdicts
 within c =
     let l = c .before .before .before .before .loop in
     let a = c .before .before .before .before .before .before .args in
@@ -42,7 +42,7 @@ cast-n : tie.Need-cast-n Inv-loop μ-loop
 cast-n c = omega (arith, c .shared-slice-known2 .given (c .before .before .loop .k))
 
 room-here-requires : tie.Need-room-here-requires Inv-loop μ-loop
-room-here-requires c κs = search needs
+room-here-requires c κs = let l = c .before .before .loop in (l .inv .1, omega (arith, c .shared-slice-known2 .given (l .k)))
 
 add-result : tie.Need-add-result Inv-loop μ-loop
 add-result c = search needs

@@ -1,5 +1,6 @@
 -- `clear` meets its contract: the places passed are 0. Assumes nothing.
 use Prim.Native.Nat.{_-_, _≤_, ℕ}
+use Rattle.packing.specs.Numbers.{places}
 use Rattle.packing.specs.Packed.{Put}
 use Rattle.packing.proofs.PlaceLaws.{put-none}
 use borrow.Author.Needs.{needs}
@@ -12,10 +13,10 @@ use Rattle.crossing.proofs.lending.clear.Statement.{statement}
 use Rattle.crossing.proofs.lending.clear.Tie as tie
 
 abbrev Inv-loop : tie.InvT-loop
-Inv-loop numbers₀ i₀ numbers i = (i ≤ 371) × (length numbers ≡ 371) × Put (λ (k p : ℕ). p ≡ 0) 0 i numbers₀ numbers
+Inv-loop numbers₀ i₀ numbers i = (i ≤ places) × (length numbers ≡ places) × Put (λ (k p : ℕ). p ≡ 0) 0 i numbers₀ numbers
 
 abbrev μ-loop : tie.MeasureT-loop
-μ-loop numbers₀ i₀ numbers i = 371 - i
+μ-loop numbers₀ i₀ numbers i = places - i
 
 loop-holds : tie.Need-loop-holds Inv-loop μ-loop
 loop-holds c = (omega arith, c .pre, put-none _ _ _)

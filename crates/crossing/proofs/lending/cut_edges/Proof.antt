@@ -14,7 +14,7 @@ abbrev Inv-loop : tie.InvT-loop
 Inv-loop xs bytes₀ fit₀ k₀ bytes fit k = SoFar isByte (λ (b : ℕ). b) (λ (x : ℕ). x % 256) (edge-byte xs) 0 0 edgeBytes k fit bytes₀ bytes
 
 abbrev μ-loop : tie.MeasureT-loop
-μ-loop xs bytes₀ fit₀ k₀ bytes fit k = 1024 - k
+μ-loop xs bytes₀ fit₀ k₀ bytes fit k = edgeBytes - k
 
 loop-holds : tie.Need-loop-holds Inv-loop μ-loop
 loop-holds c = lent-none isByte (λ (b : ℕ). b) (λ (x : ℕ). x % 256) (edge-byte (now (c .args .xs))) 0 0 edgeBytes (now (c .args .bytes))

@@ -1,6 +1,7 @@
 -- `lend_automaton` meets its contract: three stores. Assumes nothing.
 use Prim.Native.Nat.{_+_}
 use Rattle.crossing.proofs.Cut.{automaton-low}
+use Rattle.packing.specs.Numbers.{headsPlace, rangesPlace}
 use Rattle.packing.proofs.PlaceLaws.{head-put}
 use denote.Ref.{now}
 use lib.ListN.{length-set, set}
@@ -74,7 +75,7 @@ mul-numbers-2 c = search needs
 
 slice-write-numbers-2 : tie.Need-slice-write-numbers-2
 slice-write-numbers-2 c = let S = c .before .before .before .before .before .before .before .before .before in
-    omega (arith, length-set (now (S .args .numbers)) (320 + S .args .m) (c .before .before .before .head .result), S .pre .1, S .pre .2)
+    omega (arith, length-set (now (S .args .numbers)) (headsPlace + S .args .m) (c .before .before .before .head .result), S .pre .1, S .pre .2)
 
 add-low : tie.Need-add-low
 add-low c = search needs
@@ -98,7 +99,7 @@ slice-write-numbers-3 : tie.Need-slice-write-numbers-3
 slice-write-numbers-3 c = let S = c .before .before .before .before .before .before .before .before .before .before .before in
     let l = now (S .args .numbers) in
     let h = c .before .before .before .before .before .head .result in
-    omega (arith, length-set l (320 + S .args .m) h, length-set (set l (320 + S .args .m) h) (336 + S .args .m) (c .before .before .range .result), S .pre .1, S .pre .2)
+    omega (arith, length-set l (headsPlace + S .args .m) h, length-set (set l (headsPlace + S .args .m) h) (rangesPlace + S .args .m) (c .before .before .range .result), S .pre .1, S .pre .2)
 
 same-length : tie.Need-same-length
 same-length c = search needs

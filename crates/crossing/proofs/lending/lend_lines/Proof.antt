@@ -5,7 +5,7 @@ use Rattle.aldlf.specs.Sheet.{noLine}
 use Rattle.crossing.proofs.Lent.{SoFar, lent-none, lent-next, lent-all}
 use Rattle.crossing.specs.Numbers.{lineSize, lineAt, lineFits}
 use Rattle.crossing.specs.Steps.{lineCut}
-use Rattle.packing.specs.Numbers.{lineIn}
+use Rattle.packing.specs.Numbers.{linesPlace, lineIn}
 use borrow.Author.Needs.{needs}
 use denote.Ref.{now}
 use native.Mathlib.Omega.{arith}
@@ -13,14 +13,14 @@ use Rattle.crossing.proofs.lending.lend_lines.Statement.{statement}
 use Rattle.crossing.proofs.lending.lend_lines.Tie as tie
 
 abbrev Inv-loop : tie.InvT-loop
-Inv-loop xs numbers₀ fit₀ k₀ numbers fit k = SoFar lineFits lineIn lineCut (λ i. lineAt xs (lineSize * i)) noLine 256 nodeLimit k fit numbers₀ numbers
+Inv-loop xs numbers₀ fit₀ k₀ numbers fit k = SoFar lineFits lineIn lineCut (λ i. lineAt xs (lineSize * i)) noLine linesPlace nodeLimit k fit numbers₀ numbers
 
 abbrev μ-loop : tie.MeasureT-loop
-μ-loop xs numbers₀ fit₀ k₀ numbers fit k = 64 - k
+μ-loop xs numbers₀ fit₀ k₀ numbers fit k = nodeLimit - k
 
 loop-holds : tie.Need-loop-holds Inv-loop μ-loop
 loop-holds c = let S = c .before .before in
-    lent-none lineFits lineIn lineCut (λ i. lineAt (now (S .args .xs)) (lineSize * i)) noLine 256 nodeLimit (now (S .args .numbers))
+    lent-none lineFits lineIn lineCut (λ i. lineAt (now (S .args .xs)) (lineSize * i)) noLine linesPlace nodeLimit (now (S .args .numbers))
 
 mul-p : tie.Need-mul-p Inv-loop μ-loop
 mul-p c = search needs
@@ -49,7 +49,7 @@ loop-less c = search needs
 loop-again : tie.Need-loop-again Inv-loop μ-loop
 loop-again c = let S = c .before .before .before .before .before .before in
     let l = c .before .before .before .loop in
-    lent-next lineFits lineIn lineCut (λ i. lineAt (now (S .args .xs)) (lineSize * i)) noLine 256 nodeLimit (now (S .args .numbers)) (l .k) (256 + l .k) (l .fit) _ (l .numbers) (c .line-number .result) (l .inv) (c .before .before .loop-test .taken) (omega arith) (omega (arith, c .before .before .loop-test .taken, l .inv .put .same, S .pre .1)) (c .before .line-fits .ensures) (c .line-number .ensures)
+    lent-next lineFits lineIn lineCut (λ i. lineAt (now (S .args .xs)) (lineSize * i)) noLine linesPlace nodeLimit (now (S .args .numbers)) (l .k) (linesPlace + l .k) (l .fit) _ (l .numbers) (c .line-number .result) (l .inv) (c .before .before .loop-test .taken) (omega arith) (omega (arith, c .before .before .loop-test .taken, l .inv .put .same, S .pre .1)) (c .before .line-fits .ensures) (c .line-number .ensures)
 
 same-length : tie.Need-same-length Inv-loop μ-loop
 same-length c = c .before .loop .inv .put .same
@@ -57,7 +57,7 @@ same-length c = c .before .loop .inv .put .same
 returns : tie.Need-returns Inv-loop μ-loop
 returns c = let S = c .before .before .before .before in
     let l = c .before .loop in
-    lent-all lineFits lineIn lineCut (λ i. lineAt (now (S .args .xs)) (lineSize * i)) noLine 256 nodeLimit (now (S .args .numbers)) (l .k) (l .fit) (l .numbers) (l .inv) (c .loop-test .left)
+    lent-all lineFits lineIn lineCut (λ i. lineAt (now (S .args .xs)) (lineSize * i)) noLine linesPlace nodeLimit (now (S .args .numbers)) (l .k) (l .fit) (l .numbers) (l .inv) (c .loop-test .left)
 
 pub lend-lines-spec : {M : Type 1} → statement M
 lend-lines-spec =

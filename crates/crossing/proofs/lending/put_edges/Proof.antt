@@ -3,7 +3,7 @@ use Prim.Native.Nat.{ℕ, _*_, _-_, _≤_}
 use Rattle.crossing.proofs.Lent.{put-at}
 use Rattle.crossing.specs.Numbers.{edgeSize, edgeAt}
 use Rattle.packing.proofs.PlaceLaws.{put-none}
-use Rattle.packing.specs.Numbers.{edgeIn}
+use Rattle.packing.specs.Numbers.{places, edgeIn}
 use Rattle.packing.specs.Packed.{Put}
 use borrow.Author.Needs.{needs}
 use denote.Ref.{now}
@@ -14,7 +14,7 @@ use Rattle.crossing.proofs.lending.put_edges.Statement.{statement}
 use Rattle.crossing.proofs.lending.put_edges.Tie as tie
 
 abbrev Inv-loop : tie.InvT-loop
-Inv-loop bytes numbers₀ k₀ numbers k = (k ≤ 256) × (length numbers ≡ 371) × Put (λ (e p : ℕ). edgeIn p ≡ edgeAt bytes (edgeSize * e)) 0 k numbers₀ numbers
+Inv-loop bytes numbers₀ k₀ numbers k = (k ≤ 256) × (length numbers ≡ places) × Put (λ (e p : ℕ). edgeIn p ≡ edgeAt bytes (edgeSize * e)) 0 k numbers₀ numbers
 
 abbrev μ-loop : tie.MeasureT-loop
 μ-loop bytes numbers₀ k₀ numbers k = 256 - k

@@ -7,6 +7,7 @@ use mathlib.Core.List.{List}
 use native.Mathlib.Omega.{arith}
 use lib.Seq.{sets, length-sets, take-all}
 use denote.Ref.{now}
+use Rattle.aldlf.specs.Constants.{nodeLimit}
 use Rattle.aldlf.specs.Sheet.{noLine}
 use Rattle.aldlf.specs.declared.NodeLine.{NodeLine}
 use Rattle.crossing.specs.Numbers.{lineSize, lineNumbers, numbersOf}
@@ -16,10 +17,10 @@ use Rattle.crossing.proofs.pack.put_lines.Statement.{statement}
 use Rattle.crossing.proofs.pack.put_lines.Tie as tie
 
 abbrev Inv-loop : tie.InvT-loop
-Inv-loop out₀ nodes k₀ out k = (k ≤ 64) × (out ≡ sets out₀ 0 (numbersOf lineNumbers (take k nodes)))
+Inv-loop out₀ nodes k₀ out k = (k ≤ nodeLimit) × (out ≡ sets out₀ 0 (numbersOf lineNumbers (take k nodes)))
 
 abbrev μ-loop : tie.MeasureT-loop
-μ-loop out₀ nodes k₀ out k = 64 - k
+μ-loop out₀ nodes k₀ out k = nodeLimit - k
 
 loop-holds : tie.Need-loop-holds Inv-loop μ-loop
 unfolding numbersOf
@@ -47,7 +48,7 @@ loop-again : tie.Need-loop-again Inv-loop μ-loop
 loop-again c =
     let l = c .before .before .before .before .before .before .loop in
     let a = c .before .before .before .before .before .before .before .before .args in
-    let n : length (a .t1) ≡ 64 = c .before .before .before .before .before .before .before .before .good .0 .1 .0 .1 in
+    let n : length (a .t1) ≡ nodeLimit = c .before .before .before .before .before .before .before .before .good .0 .1 .0 .1 in
     let e = c .before .before .put-line .ensures ∙ ap (λ (m : ℕ). sets (l .out) m (lineNumbers (getD (a .t1) (l .k) noLine))) (sym (zero-add (lineSize * l .k))) in
     (omega arith, put-next lineNumbers lineSize (λ x. refl) (now (a .out)) (l .out) _ (a .t1) 0 (l .k) noLine (omega arith) (l .inv .1) e)
 
@@ -58,7 +59,7 @@ returns : tie.Need-returns Inv-loop μ-loop
 returns c =
     let l = c .before .loop in
     let a = c .before .before .before .args in
-    let n : length (a .t1) ≡ 64 = c .before .before .before .good .0 .1 .0 .1 in
+    let n : length (a .t1) ≡ nodeLimit = c .before .before .before .good .0 .1 .0 .1 in
     l .inv .1 ∙ ap (λ (x : List NodeLine). sets (now (a .out)) 0 (numbersOf lineNumbers x)) (take-all (l .k) (a .t1) (omega arith))
 
 pub put-lines-spec : {M : Type 1} → statement M

@@ -4,6 +4,7 @@ use mathlib.Core.Path.{_≡_, refl, ap, _∙_}
 use native.Mathlib.Omega.{arith}
 use lib.ListN.{length, take, length-set}
 use denote.Ref.{now}
+use Rattle.aldlf.specs.Constants.{nodeLimit}
 use Rattle.crossing.proofs.Copied.{copied-next, copied-all}
 use Rattle.crossing.specs.Numbers.{rowOf}
 use borrow.Author.Needs.{needs}
@@ -11,10 +12,10 @@ use Rattle.crossing.proofs.rows.row_of.Statement.{statement}
 use Rattle.crossing.proofs.rows.row_of.Tie as tie
 
 abbrev Inv-loop : tie.InvT-loop
-Inv-loop xs bits₀ k₀ bits k = (k ≤ 64) × ((length bits ≡ 64) × (take k bits ≡ take k xs))
+Inv-loop xs bits₀ k₀ bits k = (k ≤ nodeLimit) × ((length bits ≡ nodeLimit) × (take k bits ≡ take k xs))
 
 abbrev μ-loop : tie.MeasureT-loop
-μ-loop xs bits₀ k₀ bits k = 64 - k
+μ-loop xs bits₀ k₀ bits k = nodeLimit - k
 
 loop-holds : tie.Need-loop-holds Inv-loop μ-loop
 loop-holds c = (omega arith, (refl, refl))

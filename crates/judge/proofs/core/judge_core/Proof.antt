@@ -2,6 +2,7 @@
 use Rattle.aldlf.specs.Constants.{entryLimit}
 use Rattle.judge.proofs.Adds.{zeros-at}
 use native.Mathlib.Omega.{arith}
+use Prim.Native.Nat.{_*_}
 use borrow.Author.Needs.{needs}
 use Rattle.judge.proofs.core.judge_core.Statement.{statement}
 use Rattle.judge.proofs.core.judge_core.Tie as tie
@@ -21,7 +22,7 @@ slice-aggregate-judge-in-3 c = search needs
 judge-in-requires : tie.Need-judge-in-requires
 judge-in-requires c κs = let S = c .before .before .before .before .before .before .before .before in
     let few = c .before .before .before .before .if1 .taken in
-    (S .pre .0, (S .pre .1, ((few, omega arith, few), λ i l. zeros-at 32 i)))
+    (S .pre .0, (S .pre .1, ((omega arith, omega arith, few), λ i. zeros-at 64 i)))
 
 same-length : tie.Need-same-length
 same-length c = search needs
@@ -41,7 +42,7 @@ slice-aggregate-judge-in-6 c = search needs
 judge-in-requires-2 : tie.Need-judge-in-requires-2
 judge-in-requires-2 c κs = let S = c .before .before .before .before .before .before .before .before in
     let n = S .pre .1 .1 in
-    (S .pre .0, (S .pre .1, ((n, omega arith, n), λ i l. zeros-at entryLimit i)))
+    (S .pre .0, (S .pre .1, ((omega arith, omega arith, n), λ i. zeros-at (2 * entryLimit) i)))
 
 same-length-2 : tie.Need-same-length-2
 same-length-2 c = search needs

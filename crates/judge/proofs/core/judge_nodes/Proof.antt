@@ -1,6 +1,6 @@
 -- `judge_nodes` meets its contract: the words, the row and the count of the nodes passed, and whose steps are at hand. Assumes nothing.
-use Prim.Native.Nat.{_*_, _-_, _<_, _≤_, ℕ}
-use Rattle.aldlf.specs.Constants.{automatonLimit, nodeLimit}
+use Prim.Native.Nat.{_*_, _-_, _^_, _<_, _≤_, ℕ}
+use Rattle.aldlf.specs.Constants.{automatonLimit, nodeLimit, wordBits}
 use Rattle.aldlf.specs.Outcomes.{bitCount, bitsOf}
 use Rattle.aldlf.specs.Sheet.{sheetOf}
 use Rattle.aldlf.specs.declared.NodeLine.{NodeLine}
@@ -10,11 +10,12 @@ use Rattle.judge.proofs.Adds.{filled-end, filled-next, filled-start}
 use Rattle.judge.proofs.GivenLaws.{automaton-there, none-after}
 use Rattle.judge.proofs.RowLaws.{inner, row-form}
 use Rattle.judge.proofs.StepLaws.{kept-next, kept-none}
-use Rattle.judge.proofs.WordLaws.{held-last, words-end, words-none}
+use Rattle.judge.proofs.WordLaws.{held-last, held-read, pairs, words-end, words-none}
 use Rattle.judge.specs.Nodes.{Known, Ready, Through, modalKind}
 use Rattle.sheet.specs.Facts.{Lent, automatonAt, nodeAt}
 use Rattle.judge.specs.declared.nodes.Job.{Job}
 use Rattle.packing.specs.Numbers.{lentUsed}
+use Rattle.reach.specs.Marks.{at, paired}
 use borrow.Author.Needs.{needs}
 use denote.Ref.{now}
 use lib.ListN.{getD, length, length-set}
@@ -27,7 +28,8 @@ use Rattle.judge.proofs.core.judge_nodes.Tie as tie
 
 abbrev Inv-loop : tie.InvT-loop
 Inv-loop numbers log words₀ steps₀ masks₀ out₀ held₀ row way count have₀ k₀ words steps masks out held have k = (k ≤ count) × (count ≡ lentUsed numbers .nodes) × (length masks ≡ length log) × (length out ≡ nodeLimit)
-    × ((t : Table) → Lent t numbers → Through t (record { way = way; row = row }) log numbers words steps out held have k)
+    × ((t : Table) → Lent t numbers → Through t (record { way = way; row = row }) log numbers (paired words) steps out held have k)
+    × (length words ≡ 2 * length log) × ((i : ℕ) → at words i < 2 ^ wordBits)
 
 abbrev μ-loop : tie.MeasureT-loop
 μ-loop numbers log words₀ steps₀ masks₀ out₀ held₀ row way count have₀ k₀ words steps masks out held have k = count - k
@@ -55,7 +57,7 @@ job c = let S = c .before .before .before .before .before .before .before .befor
     record { number = record { 0 = k }; line = c .before .before .before .before .before .line-at .result; automaton = c .before .before .before .automaton-at .result; given = getD (S .args .part .row .bits) k 0; way = S .args .part .way }
 
 known : (c : tie.After-ready-arg2 Inv-loop μ-loop) → let S = c .before .before .before .before .before .before .before .before .before .before .before .before .before .before .before in (t : Table) → Lent t (now (S .args .numbers))
-    → Known t (S .args .part .row) (job c) (now (S .args .log)) (now (S .args .numbers)) (c .before .before .before .before .before .before .before .loop .words)
+    → Known t (S .args .part .row) (job c) (now (S .args .log)) (now (S .args .numbers)) (paired (c .before .before .before .before .before .before .before .loop .words))
 unfolding job
 known c t L = let l = c .before .before .before .before .before .before .before .loop in
     record {
@@ -69,7 +71,7 @@ known c t L = let l = c .before .before .before .before .before .before .before 
 
 -- the steps at hand are those of the node's automaton
 steps-ready : (c : tie.After-ready Inv-loop μ-loop) → let S = c .before .before .before .before .before .before .before .before .before .before .before .before .before .before .before .before in (t : Table) → Lent t (now (S .args .numbers))
-    → Ready t (job (c .before)) (now (S .args .numbers)) (c .before .before .before .before .before .before .before .before .loop .words) (c .ready .result) (c .ready .last .1 .1 .1 .1 .0)
+    → Ready t (job (c .before)) (now (S .args .numbers)) (paired (c .before .before .before .before .before .before .before .before .loop .words)) (c .ready .result) (c .ready .last .1 .1 .1 .1 .0)
 unfolding job
 steps-ready c t L = let S = c .before .before .before .before .before .before .before .before .before .before .before .before .before .before .before .before in c .ready .ensures t (S .args .part .row) (now (S .args .log)) (known (c .before) t L) (c .before .before .before .before .before .before .before .before .loop .inv .4 t L .kept)
 
@@ -83,7 +85,9 @@ loop-holds c = let S = c .before .before .before .before .before .before .before
       ap (λ (u : Used). u .nodes) (c .used-in .ensures),
       n .2,
       refl,
-      λ t L. record { words-are = words-none _ _ _ _ (n .0) (S .pre .1 .1); row-is = filled-start _; held-is = λ l. absurd (omega arith); kept = kept-none _ _ _ _ 0 _ refl (n .1 ∙ ap (λ (z : ℕ). 49 * z) (sym (n .0))) },
+      λ t L. record { words-are = words-none _ _ _ _ (n .0) (S .pre .1 .1); row-is = filled-start _; held-is = λ l. absurd (omega arith); kept = kept-none _ _ _ _ 0 _ refl (n .1 ∙ ap (λ (z : ℕ). 49 * z) (sym (pairs (now (S .args .log)) (now (S .args .words)) (n .0)))) },
+      n .0,
+      λ i. omega (arith, c .before .before .before .before .slice-known .given i),
     )
 
 line-at-requires : tie.Need-line-at-requires Inv-loop μ-loop
@@ -150,13 +154,15 @@ loop-again c = let S = c .before .before .before .before .before .before .before
           record {
             words-are = d .words-are;
             row-is = filled-next _ (l .out) (l .k) (r .result .number) (k-in (c .before .before .before .before .before .before .before .before .before .before .before .before .before .before .before .before .before)) (so .row-is) (d .row-is);
-            held-is = λ _. held-last (length (now (S .args .log))) (r .last .1 .1 .1 .0) (l .k) (r .result .held) (d .held-is);
-            kept = kept-next t (S .args .part .row) (now (S .args .log)) (now (S .args .numbers)) (l .words) _ _ (l .k) _ L (so .words-are) (d .words-are) (ready .kept);
+            held-is = λ _. held-last (length (now (S .args .log))) (paired (r .last .1 .1 .1 .0)) (l .k) (r .result .held) (d .held-is);
+            kept = kept-next t (S .args .part .row) (now (S .args .log)) (now (S .args .numbers)) (paired (l .words)) _ _ (l .k) _ L (so .words-are) (d .words-are) (ready .kept);
           },
+      r .kept .1 .1 .1 .0 ∙ l .inv .5,
+      λ i. omega (arith, c .before .before .slice-known5 .given i),
     )
 
 same-length : tie.Need-same-length Inv-loop μ-loop
-same-length c = let S = c .before .before .before .before .before .before .before .before .before in c .before .loop .inv .4 (S .pre .0 .0) (S .pre .0 .1) .words-are .size ∙ sym (S .pre .1 .0 .0)
+same-length c = c .before .loop .inv .5 ∙ sym (c .before .before .before .before .before .before .before .before .before .pre .1 .0 .0)
 
 same-length-2 : tie.Need-same-length-2 Inv-loop μ-loop
 same-length-2 c = let S = c .before .before .before .before .before .before .before .before .before in
@@ -179,8 +185,9 @@ returns c = let S = c .before .before .before .before .before .before .before .b
       row-is = ap (λ (b : List ℕ). record { bits = b }) (filled-end _ (l .out) (l .k) (so .row-is) (λ j h.
           none-after t (L .facts) j (omega (arith, end)) _ (λ s. inner (p .way) (sheetOf t) (now (S .args .log)) (bitsOf (p .row)) j s)
           (λ s. row-form (p .way) (sheetOf t) (now (S .args .log)) (bitsOf (p .row)) j s)));
-      words-are = words-end (sheetOf t) (bitsOf (p .row)) (now (S .args .log)) (l .k) (l .words) (so .words-are) end;
-      held-is = so .held-is (omega (arith, end, L .facts .some-node)) ∙ ap (λ (k : ℕ). bitCount (length (now (S .args .log))) (l .words) (k - 1)) end;
+      words-are = words-end (sheetOf t) (bitsOf (p .row)) (now (S .args .log)) (l .k) (l .words) (l .inv .5) (l .inv .6) (so .words-are) end;
+      held-is = so .held-is (omega (arith, end, L .facts .some-node)) ∙ held-read (now (S .args .log)) (l .words) (l .k - 1) (l .inv .5) (omega (arith, end, L .facts .nodes≤))
+          ∙ ap (λ (k : ℕ). bitCount (length (now (S .args .log))) (l .words) (k - 1)) end;
     }
 
 pub judge-nodes-spec : {M : Type 1} → statement M

@@ -1,5 +1,5 @@
 -- `judge_lent` meets its contract: refused by the first no, else the core at the plain row. Assumes nothing.
-use Prim.Native.Nat.{ℕ}
+use Prim.Native.Nat.{ℕ, _*_}
 use Rattle.aldlf.proofs.Bools.{and-right}
 use Rattle.aldlf.specs.Constants.{entryLimit}
 use Rattle.aldlf.specs.Outcomes.{wholeNumber}
@@ -27,10 +27,10 @@ use Rattle.judge.proofs.lent.judge_lent.Tie as tie
 
 -- all questions got a yes
 yes : (c : tie.Else1) → let S = c .before .before .before .before .before in let n = length (now (S .args .log)) in (t : Table) → Packed t (now (S .args .numbers))
-    → (wellFormed t ≡ true) × (leb 1 n && leb n entryLimit ≡ true) × (leb n (length (now (S .args .verdicts))) ≡ true)
+    → (wellFormed t ≡ true) × (leb 1 n && leb n entryLimit ≡ true) × (leb (2 * n) (length (now (S .args .verdicts))) ≡ true)
 yes c t P = let S = c .before .before .before .before .before in
     let n = length (now (S .args .log)) in
-    three-yes (wellFormed t) (leb 1 n && leb n entryLimit) (leb n (length (now (S .args .verdicts)))) (sym (c .before .whole-question .ensures t P) ∙ c .if1 .left)
+    three-yes (wellFormed t) (leb 1 n && leb n entryLimit) (leb (2 * n) (length (now (S .args .verdicts)))) (sym (c .before .whole-question .ensures t P) ∙ c .if1 .left)
 
 lent : (c : tie.Else1) → let S = c .before .before .before .before .before in (t : Table) → Packed t (now (S .args .numbers)) → Lent t (now (S .args .numbers))
 lent c t P = record { facts = table-facts t (yes c t P .0); packed = P }
@@ -53,7 +53,7 @@ judge-core-requires : tie.Need-judge-core-requires
 judge-core-requires c κs = let S = c .before .before .before .before .before .before .before in
     let n = length (now (S .args .log)) in
     let y = yes (c .before .before) (S .pre .0) (S .pre .1) in
-    ((S .pre .0, lent (c .before .before) (S .pre .0) (S .pre .1)), (leb-true n (length (now (S .args .verdicts))) (y .2), leb-true n entryLimit (and-right (leb 1 n) (leb n entryLimit) (y .1))))
+    ((S .pre .0, lent (c .before .before) (S .pre .0) (S .pre .1)), (leb-true (2 * n) (length (now (S .args .verdicts))) (y .2), leb-true n entryLimit (and-right (leb 1 n) (leb n entryLimit) (y .1))))
 
 same-length : tie.Need-same-length
 same-length c = search needs
@@ -71,8 +71,8 @@ returns-2 c = let S = c .before .before .before .before .before .before .before 
           let d = c .before .before .judge-core .ensures t L in
           let is-plain = subst (AllPlain T) (sym (row .ensures t L)) (plain-is-plain t (L .facts)) in
           whole-accepted (wellFormed t) T log (now (S .args .verdicts)) _ _ (sym (q .ensures t P) ∙ no)
-          (d .done .held-is ∙ plain-held T (sound t (L .facts)) (row .result) is-plain log (L .facts .some-node) _ (d .done .words-are))
-          (d .put ∙ ap (λ (l : List ℕ). l ++ drop (length log) (now (S .args .verdicts))) (d .done .words-are ∙ plain-words T (sound t (L .facts)) (row .result) is-plain log)),
+          (d .done .held-is ∙ plain-held T (sound t (L .facts)) (row .result) is-plain log _ (d .done .words-are))
+          (d .put ∙ ap (λ (l : List ℕ). l ++ drop (2 * length log) (now (S .args .verdicts))) (d .done .words-are ∙ plain-words T (sound t (L .facts)) (row .result) is-plain log)),
       λ t P. sym (eq-eqb _ 0 (sym (q .ensures t P) ∙ no)),
     )
 

@@ -1,5 +1,5 @@
 -- `judge_log` meets its contract: the core at the plain row. Assumes nothing.
-use Prim.Native.Nat.{ℕ}
+use Prim.Native.Nat.{ℕ, _*_}
 use Rattle.aldlf.specs.Sheet.{sheetOf}
 use Rattle.aldlf.specs.declared.Table.{Table}
 use Rattle.judge.specs.Prepared.{Prepared}
@@ -31,8 +31,8 @@ returns c = let S = c .before .before .before .before .before .before .before in
     let log = now (S .args .log) in
     let d = c .before .before .judge-core .ensures in
     let is-plain : (t : Table) → Prepared t row (now (S .args .numbers)) → AllPlain (sheetOf t) row = λ t P. subst (AllPlain (sheetOf t)) (sym (P .plain-is)) (plain-is-plain t (P .lent .facts)) in (
-      λ t P. d t (P .lent) .done .held-is ∙ plain-held (sheetOf t) (sound t (P .lent .facts)) row (is-plain t P) log (P .lent .facts .some-node) _ (d t (P .lent) .done .words-are),
-      λ t P. d t (P .lent) .put ∙ ap (λ (l : List ℕ). l ++ drop (length log) (now (S .args .verdicts))) (d t (P .lent) .done .words-are ∙ plain-words (sheetOf t) (sound t (P .lent .facts)) row (is-plain t P) log),
+      λ t P. d t (P .lent) .done .held-is ∙ plain-held (sheetOf t) (sound t (P .lent .facts)) row (is-plain t P) log _ (d t (P .lent) .done .words-are),
+      λ t P. d t (P .lent) .put ∙ ap (λ (l : List ℕ). l ++ drop (2 * length log) (now (S .args .verdicts))) (d t (P .lent) .done .words-are ∙ plain-words (sheetOf t) (sound t (P .lent .facts)) row (is-plain t P) log),
     )
 
 pub judge-log-spec : {M : Type 1} → statement M

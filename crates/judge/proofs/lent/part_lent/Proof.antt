@@ -1,5 +1,5 @@
 -- `part_lent` meets its contract: refused by the first no, else as the core gives for the table in which the other nodes are false. Assumes nothing.
-use Prim.Native.Nat.{ℕ}
+use Prim.Native.Nat.{ℕ, _*_}
 use native.Mathlib.Omega.{arith}
 use Rattle.aldlf.specs.Constants.{entryLimit}
 use Rattle.aldlf.specs.Outcomes.{bitsOf, packRow, partNumber, partWords}
@@ -85,8 +85,8 @@ judge-core-requires c κs =
     let S = c .before .before .before .before .before .before .before .before .before .before .before .before .before .before in
     let (t, P) = S .pre in
     let n = length (now (S .args .words)) in
-    let y = four-yes (wellFormed t) (looksOnly (S .args .way) (sheetOf t)) (leb n entryLimit) (leb n (length (now (S .args .verdicts)))) (sym (asked (c .before .before .before) t P) ∙ c .before .before .if2 .left) in
-    ((ruleTable t, c .before .before .before .before .before .before .before .rule-numbers .ensures t (lent (c .before .before .before .before .before .before .before .before .before) t P)), (leb-true n (length (now (S .args .verdicts))) (y .2), leb-true n entryLimit (y .1)))
+    let y = four-yes (wellFormed t) (looksOnly (S .args .way) (sheetOf t)) (leb n entryLimit) (leb (2 * n) (length (now (S .args .verdicts)))) (sym (asked (c .before .before .before) t P) ∙ c .before .before .if2 .left) in
+    ((ruleTable t, c .before .before .before .before .before .before .before .rule-numbers .ensures t (lent (c .before .before .before .before .before .before .before .before .before) t P)), (leb-true (2 * n) (length (now (S .args .verdicts))) (y .2), leb-true n entryLimit (y .1)))
 
 same-length : tie.Need-same-length
 same-length c = search needs
@@ -100,7 +100,7 @@ returns-3 c =
     part-accepted (wellFormed t) (S .args .way) (sheetOf t) (S .args .row) words (now (S .args .verdicts)) _ _
     (sym (asked (c .before .before .before .before .before .before .before) t P) ∙ c .before .before .before .before .before .before .if2 .left)
     (d .done .row-is ∙ ap (λ (R : Sheet). packRow (rowOf (S .args .way) R words (bitsOf (S .args .row)))) (rule-table-sheet t))
-    (d .put ∙ ap (λ (l : List ℕ). l ++ drop (length words) (now (S .args .verdicts))) (d .done .words-are ∙ ap (λ (R : Sheet). partWords R (bitsOf (S .args .row)) words) (rule-table-sheet t)))
+    (d .put ∙ ap (λ (l : List ℕ). l ++ drop (2 * length words) (now (S .args .verdicts))) (d .done .words-are ∙ ap (λ (R : Sheet). partWords R (bitsOf (S .args .row)) words) (rule-table-sheet t)))
 
 pub part-lent-spec : {M : Type 1} → statement M
 part-lent-spec =

@@ -1,7 +1,7 @@
 -- `judge_modal` meets its contract: the masks of the configurations reached, read at the start and at the row's entry. Assumes nothing.
 use Prim.Native.Nat.{ℕ}
 use Rattle.aldlf.specs.Constants.{letterD}
-use Rattle.reach.specs.Marks.{Reaching}
+use Rattle.reach.specs.Marks.{paired, Reaching}
 use denote.Ref.{now}
 use lib.Dec.{eqb}
 use mathlib.Core.Path.{subst}
@@ -43,7 +43,7 @@ returns c = let S = c .before .before .before .before .before .before .before .b
       masks = M;
       looks = S .args .looks;
       small = omega (arith, c .before .before .before .before .before .before .before .before .before .before .before .before .before .struct-known .given);
-      reaching = subst (λ (x : ℕ). Reaching E (record { accepting = j .automaton .accepting; node = record { 0 = j .line .b }; want = eqb (j .line .kind) letterD; exits = x; looks = S .args .looks }) (now (S .args .words)) M)
+      reaching = subst (λ (x : ℕ). Reaching E (record { accepting = j .automaton .accepting; node = record { 0 = j .line .b }; want = eqb (j .line .kind) letterD; exits = x; looks = S .args .looks }) (paired (now (S .args .words))) M)
           (c .before .before .before .before .before .before .before .before .before .before .before .before .facing-mask .ensures) (r .ensures E f (F .told) (F .filled));
       added = c .before .before .before .before .write-modal .ensures;
       number = c .row-number .ensures;

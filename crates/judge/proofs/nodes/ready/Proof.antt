@@ -4,6 +4,7 @@ use Rattle.judge.proofs.StepLaws.{ready-new, ready-plain, ready-same}
 use Rattle.judge.specs.Nodes.{modalKind}
 use borrow.Author.Tests.{not-false, not-true}
 use denote.Ref.{now}
+use Rattle.reach.specs.Marks.{paired}
 use mathlib.Core.Bool.{true}
 use mathlib.Core.Path.{_≡_, _∙_, refl, sym}
 use borrow.Author.Needs.{needs}
@@ -23,11 +24,11 @@ is-modal-requires c κs = search needs
 
 returns : tie.Need-returns
 returns c = let S = c .before .before .before .before .before in
-    λ t row log K C. ready-plain t row (S .args .job) log (now (S .args .edges)) (now (S .args .words)) K (S .args .have) (now (S .args .steps)) (sym (c .before .is-modal .ensures) ∙ not-true _ (c .if1 .taken)) C
+    λ t row log K C. ready-plain t row (S .args .job) log (now (S .args .edges)) (paired (now (S .args .words))) K (S .args .have) (now (S .args .steps)) (sym (c .before .is-modal .ensures) ∙ not-true _ (c .if1 .taken)) C
 
 returns-2 : tie.Need-returns-2
 returns-2 c = let S = c .before .before .before .before .before .before .before in
-    λ t row log K C. ready-same t row (S .args .job) log (now (S .args .edges)) (now (S .args .words)) K (modal (c .before .before)) (S .args .have) (now (S .args .steps)) (c .if2 .taken) C
+    λ t row log K C. ready-same t row (S .args .job) log (now (S .args .edges)) (paired (now (S .args .words))) K (modal (c .before .before)) (S .args .have) (now (S .args .steps)) (c .if2 .taken) C
 
 cast-first : tie.Need-cast-first
 cast-first c = search needs
@@ -50,12 +51,12 @@ part-fill-start c = search needs
 part-fill-end : tie.Need-part-fill-end
 part-fill-end c = let k = c .before .before .before .before in
     let S = k .before .before .before .before .before in
-    asks (S .pre .0 .0) (S .pre .0 .1) (S .args .job) (S .pre .0 .2) (now (S .args .edges)) (now (S .args .words)) (S .pre .0 .3) (modal k) .room
+    asks (S .pre .0 .0) (S .pre .0 .1) (S .args .job) (S .pre .0 .2) (now (S .args .edges)) (paired (now (S .args .words))) (S .pre .0 .3) (modal k) .room
 
 fill-requires : tie.Need-fill-requires
 fill-requires c κs = let k = c .before .before .before .before .before .before in
     let S = k .before .before .before .before .before in
-    (asks (S .pre .0 .0) (S .pre .0 .1) (S .args .job) (S .pre .0 .2) (now (S .args .edges)) (now (S .args .words)) (S .pre .0 .3) (modal k) .edges-ok, S .pre .1)
+    (asks (S .pre .0 .0) (S .pre .0 .1) (S .args .job) (S .pre .0 .2) (now (S .args .edges)) (paired (now (S .args .words))) (S .pre .0 .3) (modal k) .edges-ok, S .pre .1)
 
 same-length : tie.Need-same-length
 same-length c = search needs
@@ -64,7 +65,7 @@ returns-3 : tie.Need-returns-3
 returns-3 c = let k = c .before .before .before .before .before .before .before .before .before in
     let S = k .before .before .before .before .before in
     let r = c .before .before .fill in
-    λ t row log K C. ready-new t row (S .args .job) log (now (S .args .edges)) (now (S .args .words)) K (modal k) _ _ refl (r .kept .1 .1 .0 ∙ S .pre .1 .0)
+    λ t row log K C. ready-new t row (S .args .job) log (now (S .args .edges)) (paired (now (S .args .words))) K (modal k) _ _ refl (r .kept .1 .1 .0 ∙ S .pre .1 .0)
     (record { told = r .ensures .0; placed = r .ensures .1 .0; filled = r .ensures .1 .1 })
 
 pub ready-spec : {M : Type 1} → statement M

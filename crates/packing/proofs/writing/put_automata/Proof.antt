@@ -2,6 +2,7 @@
 use Prim.Native.Nat.{_-_, _≤_, ℕ}
 use denote.Ref.{now}
 use Rattle.packing.proofs.PlaceLaws.{heads-next, heads-none}
+use Rattle.packing.specs.Numbers.{places}
 use Rattle.packing.specs.Packed.{HeadsPut}
 use borrow.Author.Needs.{needs}
 use lib.ListN.{length}
@@ -11,7 +12,7 @@ use Rattle.packing.proofs.writing.put_automata.Statement.{statement}
 use Rattle.packing.proofs.writing.put_automata.Tie as tie
 
 abbrev Inv-loop : tie.InvT-loop
-Inv-loop numbers₀ automata m₀ numbers m = (m ≤ 16) × (length numbers ≡ 371) × HeadsPut automata m numbers₀ numbers
+Inv-loop numbers₀ automata m₀ numbers m = (m ≤ 16) × (length numbers ≡ places) × HeadsPut automata m numbers₀ numbers
 
 abbrev μ-loop : tie.MeasureT-loop
 μ-loop numbers₀ automata m₀ numbers m = 16 - m

@@ -3,6 +3,7 @@ use Prim.Native.Nat.{_+_}
 use native.Mathlib.Omega.{arith}
 use denote.Ref.{now}
 use lib.ListN.{length-set, set}
+use Rattle.packing.specs.Numbers.{headsPlace, rangesPlace}
 use Rattle.packing.proofs.PlaceLaws.{head-put}
 use borrow.Author.Needs.{needs}
 use Rattle.packing.proofs.writing.put_automaton.Statement.{statement}
@@ -30,7 +31,7 @@ mul-numbers-2 : tie.Need-mul-numbers-2
 mul-numbers-2 c = search needs
 
 slice-write-numbers-2 : tie.Need-slice-write-numbers-2
-slice-write-numbers-2 c = let S = c .before .before in omega (arith, length-set (now (S .args .numbers)) (320 + S .args .m) (c .packed-automaton .result .states), S .pre .0, S .pre .1)
+slice-write-numbers-2 c = let S = c .before .before in omega (arith, length-set (now (S .args .numbers)) (headsPlace + S .args .m) (c .packed-automaton .result .states), S .pre .0, S .pre .1)
 
 add-numbers-3 : tie.Need-add-numbers-3
 add-numbers-3 c = search needs
@@ -42,7 +43,7 @@ slice-write-numbers-3 : tie.Need-slice-write-numbers-3
 slice-write-numbers-3 c = let S = c .before .before in
     let l = now (S .args .numbers) in
     let h = c .packed-automaton .result in
-    omega (arith, length-set l (320 + S .args .m) (h .states), length-set (set l (320 + S .args .m) (h .states)) (336 + S .args .m) (h .range), S .pre .0, S .pre .1)
+    omega (arith, length-set l (headsPlace + S .args .m) (h .states), length-set (set l (headsPlace + S .args .m) (h .states)) (rangesPlace + S .args .m) (h .range), S .pre .0, S .pre .1)
 
 same-length : tie.Need-same-length
 same-length c = search needs

@@ -2,7 +2,7 @@
 use Prim.Native.Nat.{_+_, _-_, _≤_, ℕ}
 use Rattle.aldlf.specs.Sheet.{noEdge}
 use Rattle.packing.proofs.PlaceLaws.{put-next, put-none}
-use Rattle.packing.specs.Numbers.{edgeIn}
+use Rattle.packing.specs.Numbers.{edgeIn, places}
 use Rattle.packing.specs.Packed.{Put}
 use borrow.Author.Needs.{needs}
 use lib.ListN.{getD, length, length-set, set}
@@ -13,7 +13,7 @@ use Rattle.packing.proofs.writing.put_edges.Statement.{statement}
 use Rattle.packing.proofs.writing.put_edges.Tie as tie
 
 abbrev Inv-loop : tie.InvT-loop
-Inv-loop numbers₀ edges e₀ numbers e = (e ≤ 256) × (length numbers ≡ 371) × Put (λ (k p : ℕ). edgeIn p ≡ getD edges k noEdge) 0 e numbers₀ numbers
+Inv-loop numbers₀ edges e₀ numbers e = (e ≤ 256) × (length numbers ≡ places) × Put (λ (k p : ℕ). edgeIn p ≡ getD edges k noEdge) 0 e numbers₀ numbers
 
 abbrev μ-loop : tie.MeasureT-loop
 μ-loop numbers₀ edges e₀ numbers e = 256 - e

@@ -1,8 +1,9 @@
 -- `put_lines` meets its contract: those passed stand in their places. Assumes nothing.
 use Prim.Native.Nat.{_+_, _-_, _≤_, ℕ}
+use Rattle.aldlf.specs.Constants.{nodeLimit}
 use Rattle.aldlf.specs.Sheet.{noLine}
 use Rattle.packing.proofs.PlaceLaws.{put-next, put-none}
-use Rattle.packing.specs.Numbers.{lineIn}
+use Rattle.packing.specs.Numbers.{lineIn, linesPlace, places}
 use Rattle.packing.specs.Packed.{Put}
 use borrow.Author.Needs.{needs}
 use lib.ListN.{getD, length, length-set}
@@ -13,10 +14,10 @@ use Rattle.packing.proofs.writing.put_lines.Statement.{statement}
 use Rattle.packing.proofs.writing.put_lines.Tie as tie
 
 abbrev Inv-loop : tie.InvT-loop
-Inv-loop numbers₀ nodes k₀ numbers k = (k ≤ 64) × (length numbers ≡ 371) × Put (λ (k p : ℕ). lineIn p ≡ getD nodes k noLine) 256 k numbers₀ numbers
+Inv-loop numbers₀ nodes k₀ numbers k = (k ≤ nodeLimit) × (length numbers ≡ places) × Put (λ (k p : ℕ). lineIn p ≡ getD nodes k noLine) linesPlace k numbers₀ numbers
 
 abbrev μ-loop : tie.MeasureT-loop
-μ-loop numbers₀ nodes k₀ numbers k = 64 - k
+μ-loop numbers₀ nodes k₀ numbers k = nodeLimit - k
 
 loop-holds : tie.Need-loop-holds Inv-loop μ-loop
 loop-holds c = (omega arith, c .before .pre, put-none _ _ _)
@@ -48,7 +49,7 @@ loop-less c = search needs
 loop-again : tie.Need-loop-again Inv-loop μ-loop
 loop-again c = let S = c .before .before .before .before .before in
     let l = c .before .before .before .loop in
-    (omega (arith, c .before .before .loop-test .taken), length-set (l .numbers) (256 + l .k) (c .packed-line .result) ∙ l .inv .1, put-next (λ (k p : ℕ). lineIn p ≡ getD (S .args .t1) k noLine) 256 (l .k) _ (l .numbers) (c .packed-line .result) (l .inv .2) (omega (arith, c .before .before .loop-test .taken, l .inv .1)) (c .packed-line .ensures))
+    (omega (arith, c .before .before .loop-test .taken), length-set (l .numbers) (linesPlace + l .k) (c .packed-line .result) ∙ l .inv .1, put-next (λ (k p : ℕ). lineIn p ≡ getD (S .args .t1) k noLine) linesPlace (l .k) _ (l .numbers) (c .packed-line .result) (l .inv .2) (omega (arith, c .before .before .loop-test .taken, l .inv .1)) (c .packed-line .ensures))
 
 same-length : tie.Need-same-length Inv-loop μ-loop
 same-length c = c .before .loop .inv .2 .same
@@ -56,7 +57,7 @@ same-length c = c .before .loop .inv .2 .same
 returns : tie.Need-returns Inv-loop μ-loop
 returns c = let S = c .before .before .before in
     let l = c .before .loop in
-    subst (λ (n : ℕ). Put (λ (k p : ℕ). lineIn p ≡ getD (S .args .t1) k noLine) 256 n (now (S .args .numbers)) (l .numbers)) (omega (arith, l .inv .0, c .loop-test .left)) (l .inv .2)
+    subst (λ (n : ℕ). Put (λ (k p : ℕ). lineIn p ≡ getD (S .args .t1) k noLine) linesPlace n (now (S .args .numbers)) (l .numbers)) (omega (arith, l .inv .0, c .loop-test .left)) (l .inv .2)
 
 pub put-lines-spec : {M : Type 1} → statement M
 put-lines-spec =

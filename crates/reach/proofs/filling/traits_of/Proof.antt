@@ -1,22 +1,24 @@
--- `traits_of` meets its contract: a bit more for each edge passed. Assumes nothing.
+-- `traits_of` meets its contract: a bit more for each edge passed, and the node that it tests. Assumes nothing.
 use Prim.Native.Nat.{ℕ, _+_, _-_, _^_, _≤_, _<_}
-use Rattle.aldlf.specs.Constants.{nodeLimit, stateLimit}
-use Rattle.reach.proofs.Shared.{gathered}
+use Rattle.aldlf.proofs.Bools.{bool-cases}
+use Rattle.aldlf.specs.Constants.{stateLimit}
 use Rattle.reach.proofs.Made.{group-lt}
-use Rattle.reach.specs.Columns.{groupOf, Told, Tested}
-use Rattle.reach.specs.Marks.{at, dirIn, testOf}
+use Rattle.reach.proofs.Shared.{gathered}
+use Rattle.reach.proofs.Tests.{tested-next}
+use Rattle.reach.specs.Columns.{groupOf, Told}
+use Rattle.reach.specs.Marks.{at, dirIn}
+use Rattle.reach.specs.Tests.{Tested}
+use borrow.Author.Needs.{needs}
 use denote.Ref.{now}
 use lib.Bits.{bitOr}
 use lib.ListN.{length}
-use mathlib.Core.List.{List}
-use mathlib.Core.Path.{_≡_, refl, sym, subst, ap, _∙_}
+use mathlib.Core.Path.{_≡_, sym, subst, ap, _∙_}
 use native.Mathlib.Omega.{arith}
-use borrow.Author.Needs.{needs}
 use Rattle.reach.proofs.filling.traits_of.Statement.{statement}
 use Rattle.reach.proofs.filling.traits_of.Tie as tie
 use Rattle.reach.proofs.filling.traits_of.Reads as reads
 use Rattle.reach.proofs.filling.traits_of.Lts as lts
-use Rattle.reach.proofs.filling.node_bit.Reads as node-bit-reads
+use Rattle.reach.proofs.filling.with_node.Reads as with-node-reads
 use Rattle.reach.proofs.steps.group_of.Reads as group-of-reads
 use Rattle.reach.proofs.steps.one_bit.Reads as one-bit-reads
 
@@ -44,11 +46,11 @@ group-of-requires c κs = search needs
 one-bit-requires : tie.Need-one-bit-requires Inv-loop μ-loop
 one-bit-requires c κs = search needs
 
-cast-node-bit : tie.Need-cast-node-bit Inv-loop μ-loop
-cast-node-bit c = let S = c .before .before .before .before .before .before in omega (arith, S .pre .each (c .before .before .before .before .loop .e) (c .before .before .before .loop-test .taken) .test-fits)
+cast-with-node : tie.Need-cast-with-node Inv-loop μ-loop
+cast-with-node c = search needs
 
-node-bit-requires : tie.Need-node-bit-requires Inv-loop μ-loop
-node-bit-requires c κs = let S = c .before .before .before .before .before .before in S .pre .each (c .before .before .before .before .loop .e) (c .before .before .before .loop-test .taken) .test-fits
+with-node-requires : tie.Need-with-node-requires Inv-loop μ-loop
+with-node-requires c κs = let S = c .before .before .before .before .before .before in S .pre .each (c .before .before .before .before .loop .e) (c .before .before .before .loop-test .taken) .test-fits
 
 add-e : tie.Need-add-e Inv-loop μ-loop
 add-e c = search needs
@@ -57,20 +59,21 @@ loop-less : tie.Need-loop-less Inv-loop μ-loop
 loop-less c = search needs
 
 loop-again : tie.Need-loop-again Inv-loop μ-loop
-loop-again c = let S = c .before .before .before .before .before .before .before in
+loop-again c =
+    let S = c .before .before .before .before .before .before .before in
     let l = c .before .before .before .before .before .loop in
     let h = c .before .before .before .before .loop-test .taken in
     let E = now (S .args .edges) in
-    let g : ℕ → ℕ = λ e. groupOf (dirIn (at E e)) in
-    let t : ℕ → ℕ = λ e. testOf (at E e) in (
+    let g : ℕ → ℕ = λ e. groupOf (dirIn (at E e)) in (
       omega (arith, h),
       subst (λ (z : ℕ). Told E (bitOr (l .looks) z) (l .e + 1)) (sym (c .before .one-bit .ensures ∙ ap (λ (z : ℕ). 2 ^ z) (c .before .before .group-of .ensures .0)))
           (gathered g stateLimit (l .e) (l .looks) (omega (arith, group-lt (dirIn (at E (l .e))))) (l .inv .1)),
-      subst (λ (z : ℕ). Tested E (bitOr (l .tested) z) (l .e + 1)) (sym (c .node-bit .ensures)) (gathered t nodeLimit (l .e) (l .tested) (S .pre .each (l .e) h .test-fits) (l .inv .2)),
+      tested-next E (S .pre) (l .tested) _ (l .e) h (c .with-node .ensures) (l .inv .2),
     )
 
 returns : tie.Need-returns Inv-loop μ-loop
-returns c = let S = c .before .before .before in
+returns c =
+    let S = c .before .before .before in
     let l = c .before .loop in
     let z : l .e ≡ length (now (S .args .edges)) = omega (arith, l .inv .0, c .loop-test .left) in
     (subst (Told (now (S .args .edges)) (l .looks)) z (l .inv .1), subst (Tested (now (S .args .edges)) (l .tested)) z (l .inv .2))
@@ -87,8 +90,8 @@ traits-of-spec =
     cast-group-of
     group-of-requires
     one-bit-requires
-    cast-node-bit
-    node-bit-requires
+    cast-with-node
+    with-node-requires
     add-e
     loop-less
     loop-again

@@ -2,6 +2,7 @@
 use Rattle.sheet.proofs.Each.{fromOn, from-start, from-next, from-end}
 use Rattle.sheet.specs.Given.{isNoLine, nodesEnd}
 use Rattle.sheet.specs.Questions.{each}
+use Rattle.aldlf.specs.Constants.{nodeLimit}
 use Rattle.aldlf.specs.Sheet.{noLine}
 use Rattle.aldlf.specs.declared.Table.{Table}
 use Rattle.packing.specs.Packed.{Packed}
@@ -17,10 +18,10 @@ use Rattle.sheet.proofs.given.nodes_end.Statement.{statement}
 use Rattle.sheet.proofs.given.nodes_end.Tie as tie
 
 abbrev Inv-loop : tie.InvT-loop
-Inv-loop numbers n all₀ i₀ all i = (n ≤ i) × (64 < i → all ≡ true) × ((t : Table) → Packed t numbers → all ≡ each (fromOn (λ k. isNoLine (getD (t .nodes) k noLine)) n) i)
+Inv-loop numbers n all₀ i₀ all i = (n ≤ i) × (nodeLimit < i → all ≡ true) × ((t : Table) → Packed t numbers → all ≡ each (fromOn (λ k. isNoLine (getD (t .nodes) k noLine)) n) i)
 
 abbrev μ-loop : tie.MeasureT-loop
-μ-loop numbers n all₀ i₀ all i = 64 - i
+μ-loop numbers n all₀ i₀ all i = nodeLimit - i
 
 loop-holds : tie.Need-loop-holds Inv-loop μ-loop
 loop-holds c = (omega arith, λ _. refl, λ t P. sym (from-start (λ k. isNoLine (getD (t .nodes) k noLine)) (c .before .args .n)))
@@ -56,7 +57,7 @@ returns c = λ t P.
     let n = c .before .before .before .args .n in
     let l = c .before .loop in
     let g : ℕ → Bool = λ k. isNoLine (getD (t .nodes) k noLine) in
-    ⊎-elim (λ e. l .inv .2 t P ∙ ap (each (fromOn g n)) (sym e)) (λ h. l .inv .1 h ∙ from-end g n (l .i) 64 (omega arith) (sym (l .inv .2 t P) ∙ l .inv .1 h)) (eq-or-lt-of-le (c .loop-test .left))
+    ⊎-elim (λ e. l .inv .2 t P ∙ ap (each (fromOn g n)) (sym e)) (λ h. l .inv .1 h ∙ from-end g n (l .i) nodeLimit (omega arith) (sym (l .inv .2 t P) ∙ l .inv .1 h)) (eq-or-lt-of-le (c .loop-test .left))
 
 pub nodes-end-spec : {M : Type 1} → statement M
 nodes-end-spec =

@@ -2,6 +2,7 @@
 use Rattle.sheet.proofs.Lent.{flags-next, flags-all}
 use Rattle.sheet.specs.Questions.{plainFrom, plains}
 use Rattle.sheet.specs.Room.{CountsFit}
+use Rattle.aldlf.specs.Constants.{nodeLimit}
 use Rattle.aldlf.specs.declared.Table.{Table}
 use Rattle.packing.specs.Packed.{Packed}
 use Prim.Native.Nat.{ℕ, _-_, _≤_, _<_}
@@ -15,7 +16,7 @@ use Rattle.sheet.proofs.given.plains_in.Statement.{statement}
 use Rattle.sheet.proofs.given.plains_in.Tie as tie
 
 abbrev Inv-loop : tie.InvT-loop
-Inv-loop numbers used p₀ k₀ p k = (k ≤ used .nodes) × (length p ≡ 64) × ((i : ℕ) → k ≤ i → i < 64 → getD p i false ≡ false) × ((t : Table) → Packed t numbers → plainFrom (drop k (t .nodes)) k p ≡ plains (t .nodes))
+Inv-loop numbers used p₀ k₀ p k = (k ≤ used .nodes) × (length p ≡ nodeLimit) × ((i : ℕ) → k ≤ i → i < nodeLimit → getD p i false ≡ false) × ((t : Table) → Packed t numbers → plainFrom (drop k (t .nodes)) k p ≡ plains (t .nodes))
 
 abbrev μ-loop : tie.MeasureT-loop
 μ-loop numbers used p₀ k₀ p k = used .nodes - k
@@ -24,7 +25,7 @@ used-in-requires : tie.Need-used-in-requires Inv-loop μ-loop
 used-in-requires c κs = search needs
 
 loop-holds : tie.Need-loop-holds Inv-loop μ-loop
-loop-holds c = (omega arith, refl, λ i h l. getD-replicate 64 i false false l, λ t P. refl)
+loop-holds c = (omega arith, refl, λ i h l. getD-replicate nodeLimit i false false l, λ t P. refl)
 
 line-at-requires : tie.Need-line-at-requires Inv-loop μ-loop
 line-at-requires c κs = let f = subst CountsFit (sym (c .before .before .before .used-in .ensures)) (c .before .before .before .before .before .pre .1) in (c .before .before .before .before .before .pre .0, omega (arith, f .nodes≤))

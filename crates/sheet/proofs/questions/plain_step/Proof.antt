@@ -1,7 +1,7 @@
 -- `plain_step` meets its contract: only edges ahead and back are asked. Assumes nothing.
 use Rattle.sheet.proofs.Asked.{plains-length}
 use Rattle.sheet.specs.Questions.{plainStep}
-use Rattle.aldlf.specs.Constants.{letterE}
+use Rattle.aldlf.specs.Constants.{nodeLimit, letterE}
 use Prim.Native.Nat.{_-_}
 use mathlib.Core.Path.{_≡_, ap, _∙_}
 use native.Mathlib.Omega.{arith}
@@ -24,7 +24,7 @@ plains-of-requires c κs = search needs
 
 slice-aggregate-flag-at : tie.Need-slice-aggregate-flag-at
 slice-aggregate-flag-at c =
-    let e : length (c .before .plains-of .result) ≡ 64 = ap length (c .before .plains-of .ensures) ∙ plains-length (c .before .before .before .before .before .args .nodes) in
+    let e : length (c .before .plains-of .result) ≡ nodeLimit = ap length (c .before .plains-of .ensures) ∙ plains-length (c .before .before .before .before .before .args .nodes) in
     omega arith
 
 flag-at-requires : tie.Need-flag-at-requires

@@ -4,16 +4,17 @@ use mathlib.Core.Path.{_≡_, refl, sym, _∙_}
 use native.Mathlib.Omega.{arith}
 use lib.ListN.{length, drop, length-set}
 use borrow.Author.Needs.{needs}
+use Rattle.aldlf.specs.Constants.{nodeLimit}
 use Rattle.sheet.proofs.Asked.{plains-on, plains-end}
 use Rattle.sheet.specs.Questions.{plainFrom, plains}
 use Rattle.sheet.proofs.questions.plains_of.Statement.{statement}
 use Rattle.sheet.proofs.questions.plains_of.Tie as tie
 
 abbrev Inv-loop : tie.InvT-loop
-Inv-loop nodes p₀ i₀ p i = (i ≤ 64) × (length p ≡ 64) × (plainFrom (drop i nodes) i p ≡ plains nodes)
+Inv-loop nodes p₀ i₀ p i = (i ≤ nodeLimit) × (length p ≡ nodeLimit) × (plainFrom (drop i nodes) i p ≡ plains nodes)
 
 abbrev μ-loop : tie.MeasureT-loop
-μ-loop nodes p₀ i₀ p i = 64 - i
+μ-loop nodes p₀ i₀ p i = nodeLimit - i
 
 loop-holds : tie.Need-loop-holds Inv-loop μ-loop
 loop-holds c = (omega arith, refl, refl)
@@ -43,14 +44,14 @@ loop-again : tie.Need-loop-again Inv-loop μ-loop
 loop-again c =
     let l = c .before .before .before .before .loop in
     let xs = c .before .before .before .before .before .args .t1 in
-    let e : length xs ≡ 64 = c .before .before .before .before .before .good .0 .1 .0 .1 in
+    let e : length xs ≡ nodeLimit = c .before .before .before .before .before .good .0 .1 .0 .1 in
     (omega arith, simp length-set (l .inv .1), rw (c .plain-node .ensures) (sym (plains-on xs (l .i) (l .p) (omega arith)) ∙ l .inv .2))
 
 returns : tie.Need-returns Inv-loop μ-loop
 returns c =
     let l = c .before .loop in
     let xs = c .before .before .args .t1 in
-    let e : length xs ≡ 64 = c .before .before .good .0 .1 .0 .1 in
+    let e : length xs ≡ nodeLimit = c .before .before .good .0 .1 .0 .1 in
     sym (plains-end xs (l .i) (l .p) (omega arith)) ∙ l .inv .2
 
 pub plains-of-spec : {M : Type 1} → statement M

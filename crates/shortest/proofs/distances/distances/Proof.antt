@@ -4,6 +4,7 @@ use mathlib.Core.Path.{_≡_, subst, _∙_}
 use mathlib.Core.Bool.{Bool}
 use denote.Ref.{now}
 use lib.ListN.{length}
+use Rattle.reach.specs.Marks.{paired}
 use Rattle.graph.specs.Graph.{Graph}
 use Rattle.graph.specs.Configurations.{graphOf, startOf}
 use Rattle.graph.proofs.Steps.{size-small, start-in}
@@ -17,17 +18,17 @@ use Rattle.shortest.proofs.distances.distances.Statement.{statement}
 use Rattle.shortest.proofs.distances.distances.Tie as tie
 
 abbrev graph : tie.Start → Graph
-graph S = graphOf (now (S .args .arcs)) (S .args .query .automaton) (now (S .args .words))
+graph S = graphOf (now (S .args .arcs)) (S .args .query .automaton) (paired (now (S .args .words)))
 
 abbrev goal : tie.Start → ℕ → Bool
-goal S = goalAt (now (S .args .words)) (S .args .query .automaton) (S .args .query .goal)
+goal S = goalAt (paired (now (S .args .words))) (S .args .query .automaton) (S .args .query .goal)
 
-small : (S : tie.Start) → length (now (S .args .words)) * S .args .query .automaton .states ≤ 8192
-small S = size-small (now (S .args .arcs)) (S .args .query .automaton) (now (S .args .words)) (S .pre .0)
+small : (S : tie.Start) → length (paired (now (S .args .words))) * S .args .query .automaton .states ≤ 8192
+small S = size-small (now (S .args .arcs)) (S .args .query .automaton) (paired (now (S .args .words))) (S .pre .0)
 
-start-below : (S : tie.Start) → startOf (S .args .query .automaton) (S .args .query .entry .0) < length (now (S .args .words)) * S .args .query .automaton .states
+start-below : (S : tie.Start) → startOf (S .args .query .automaton) (S .args .query .entry .0) < length (paired (now (S .args .words))) * S .args .query .automaton .states
 start-below S =
-    start-in (now (S .args .arcs)) (S .args .query .automaton) (now (S .args .words)) (S .pre .0) (S .args .query .entry .0) (S .pre .1 .0 .entry-fits) (S .pre .1 .0 .start-fits)
+    start-in (now (S .args .arcs)) (S .args .query .automaton) (paired (now (S .args .words))) (S .pre .0) (S .args .query .entry .0) (S .pre .1 .0 .entry-fits) (S .pre .1 .0 .start-fits)
 
 abbrev entry : tie.After-seed → tie.Start
 entry c = c .before .before .before .before .before .before .before .before .before .before
@@ -67,7 +68,7 @@ returns c = let r = c .before .before .before .before .before .before .before .b
     let S = entry r in
     let D = r .seed .last .1 .1 .1 .0 in
     let Q = r .seed .last .1 .1 .1 .1 .0 in
-    distances-to (graph S) (zeroIn D) (GoalAt (now (S .args .words)) (S .args .query .automaton) (S .args .query .goal))
+    distances-to (graph S) (zeroIn D) (GoalAt (paired (now (S .args .words))) (S .args .query .automaton) (S .args .query .goal))
     (goal-zero (graph S) (goal S) D Q (r .seed .result) (whole r) (room r) (small S) (seeded r))
     (zero-goal (graph S) (goal S) D Q (r .seed .result) (whole r) (room r) (small S) (seeded r))
     _ (startOf (S .args .query .automaton) (S .args .query .entry .0)) (start-below S)

@@ -6,6 +6,7 @@ use native.Mathlib.Nat.{mod-lt, div-lt-iff-lt-mul}
 use denote.Ref.{now}
 use lib.ListN.{length}
 use Rattle.aldlf.specs.declared.Edge.{Edge}
+use Rattle.reach.specs.Marks.{paired}
 use Rattle.graph.specs.Graph.{Graph, at}
 use Rattle.graph.specs.Arcs.{unpackedOf, intoOf, Least}
 use Rattle.graph.specs.Configurations.{graphOf, priorOf, EdgeFits}
@@ -19,7 +20,7 @@ use Rattle.shortest.proofs.distances.relax_edges.Statement.{statement}
 use Rattle.shortest.proofs.distances.relax_edges.Tie as tie
 
 abbrev Inv-loop : tie.InvT-loop
-Inv-loop arcs words q dist₀ queue₀ states head c here d last tail₀ k₀ dist queue tail k = (q .first ≤ k) × (k < last → unpackedOf (at arcs k) .to .0 ≡ c % q .states) × Turn (graphOf arcs q words) dist₀ queue₀ head tail₀ dist queue k tail
+Inv-loop arcs words q dist₀ queue₀ states head c here d last tail₀ k₀ dist queue tail k = (q .first ≤ k) × (k < last → unpackedOf (at arcs k) .to .0 ≡ c % q .states) × Turn (graphOf arcs q (paired words)) dist₀ queue₀ head tail₀ dist queue k tail
 
 abbrev μ-loop : tie.MeasureT-loop
 μ-loop arcs words q dist₀ queue₀ states head c here d last tail₀ k₀ dist queue tail k = last - k
@@ -28,7 +29,7 @@ abbrev Entry : Type 0
 Entry = tie.Start Inv-loop μ-loop
 
 abbrev graph : Entry → Graph
-graph S = graphOf (now (S .args .arcs)) (S .args .q) (now (S .args .words))
+graph S = graphOf (now (S .args .arcs)) (S .args .q) (paired (now (S .args .words)))
 
 abbrev last : Entry → ℕ
 last S = S .args .q .first + S .args .q .count
@@ -61,16 +62,16 @@ near S = let a = searched S .short (S .args .turn .head) (S .pre .1 .0 .0) in le
 state-fits : (S : Entry) → here S % S .args .q .states < 16
 state-fits S = let m = mod-lt (here S) (S .pre .0 .some-state) in omega (arith, S .pre .0 .few-states)
 
-entry-in : (S : Entry) → here S / S .args .q .states < length (now (S .args .words))
+entry-in : (S : Entry) → here S / S .args .q .states < length (paired (now (S .args .words)))
 entry-in S = div-lt-iff-lt-mul (S .pre .0 .some-state) .1 (searched S .placed (S .args .turn .head) (S .pre .1 .0 .0))
 
 -- what `prior` says of the unpacked edge, of the edge at its number
-told : (S : Entry) (k r j : ℕ) (x : Edge) → r ≡ priorOf (now (S .args .words)) x (S .args .q .states) (x .to .0) j → x ≡ unpackedOf (at (now (S .args .arcs)) k)
+told : (S : Entry) (k r j : ℕ) (x : Edge) → r ≡ priorOf (paired (now (S .args .words))) x (S .args .q .states) (x .to .0) j → x ≡ unpackedOf (at (now (S .args .arcs)) k)
     → target S k ≡ here S % S .args .q .states → j ≡ here S / S .args .q .states → r ≡ graph S .pre k (here S)
 told S k r j x p e t i =
     p
-    ∙ (ap (λ (y : Edge). priorOf (now (S .args .words)) y (S .args .q .states) (y .to .0) j) e
-    ∙ ap₂ (λ (u v : ℕ). priorOf (now (S .args .words)) (unpackedOf (at (now (S .args .arcs)) k)) (S .args .q .states) u v) t i)
+    ∙ (ap (λ (y : Edge). priorOf (paired (now (S .args .words))) y (S .args .q .states) (y .to .0) j) e
+    ∙ ap₂ (λ (u v : ℕ). priorOf (paired (now (S .args .words))) (unpackedOf (at (now (S .args .arcs)) k)) (S .args .q .states) u v) t i)
 
 -- from one edge into the state to the next
 passed : (S : Entry) (D Q : List ℕ) (k x t : ℕ) → Least (target S) (here S % S .args .q .states) k (last S) x
@@ -78,7 +79,7 @@ passed : (S : Entry) (D Q : List ℕ) (k x t : ℕ) → Least (target S) (here S
     → Turn (graph S) (now (S .args .dist)) (now (S .args .queue)) (S .args .turn .head) (S .args .turn .tail) D Q x t
 passed S D Q k x t L u =
     turn-skip (graph S) (now (S .args .dist)) (now (S .args .queue)) (S .args .turn .head) (S .args .turn .tail) D Q k x t u
-    (λ e p le lt st. L .none e le lt (st .below-last) (step-moves (now (S .args .arcs)) (S .args .q) (now (S .args .words)) (S .pre .0) p e (here S) st .to-state))
+    (λ e p le lt st. L .none e le lt (st .below-last) (step-moves (now (S .args .arcs)) (S .args .q) (paired (now (S .args .words))) (S .pre .0) p e (here S) st .to-state))
 
 cast-states : tie.Need-cast-states Inv-loop μ-loop
 cast-states c = search needs

@@ -3,6 +3,7 @@ use Prim.Native.Nat.{ℕ, _<_, _-_}
 use mathlib.Core.Path.{_≡_, refl, subst, _∙_}
 use denote.Ref.{now}
 use lib.ListN.{length}
+use Rattle.reach.specs.Marks.{paired}
 use Rattle.graph.specs.Graph.{Graph}
 use Rattle.graph.specs.Configurations.{graphOf}
 use Rattle.shortest.specs.Progress.{Progress, zeroIn}
@@ -13,13 +14,13 @@ use Rattle.shortest.proofs.distances.spread.Statement.{statement}
 use Rattle.shortest.proofs.distances.spread.Tie as tie
 
 abbrev Inv-loop : tie.InvT-loop
-Inv-loop arcs words q dist₀ queue₀ start by head₀ tail₀ dist queue head tail = Progress (graphOf arcs q words) (zeroIn dist₀) dist queue head (q .first) tail × (length dist ≡ length dist₀) × (length queue ≡ length queue₀)
+Inv-loop arcs words q dist₀ queue₀ start by head₀ tail₀ dist queue head tail = Progress (graphOf arcs q (paired words)) (zeroIn dist₀) dist queue head (q .first) tail × (length dist ≡ length dist₀) × (length queue ≡ length queue₀)
 
 abbrev μ-loop : tie.MeasureT-loop
 μ-loop arcs words q dist₀ queue₀ start by head₀ tail₀ dist queue head tail = 8192 - head
 
 abbrev graph : tie.Start Inv-loop μ-loop → Graph
-graph S = graphOf (now (S .args .arcs)) (S .args .q) (now (S .args .words))
+graph S = graphOf (now (S .args .arcs)) (S .args .q) (paired (now (S .args .words)))
 
 start-in : (S : tie.Start Inv-loop μ-loop) → S .args .begun .start < graph S .size
 start-in S = omega (arith, S .pre .1 .0, S .pre .1 .1 .whole)

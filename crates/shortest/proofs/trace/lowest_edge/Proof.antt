@@ -7,6 +7,7 @@ use lib.Arith.{digits-mod}
 use lib.ListN.{length}
 use Rattle.aldlf.specs.declared.Edge.{Edge}
 use Rattle.aldlf.proofs.Bools.{lt-or-le}
+use Rattle.reach.specs.Marks.{paired}
 use Rattle.graph.specs.Graph.{Graph, Step, at}
 use Rattle.graph.specs.Arcs.{unpackedOf, outOf, Least}
 use Rattle.graph.specs.Configurations.{graphOf, EdgeFits, Moves}
@@ -21,7 +22,7 @@ use Rattle.shortest.proofs.trace.lowest_edge.Tie as tie
 abbrev Inv-loop : tie.InvT-loop
 Inv-loop arcs words q dist wanted last from k₀ k =
     (q .first ≤ k) × (k < last → unpackedOf (at arcs k) .from .0 ≡ from .state .0)
-    × ((a r : ℕ) → a < k → Step (graphOf arcs q words) (numberOf (q .states) from) a r → at dist r ≡ wanted .distance → ⊥)
+    × ((a r : ℕ) → a < k → Step (graphOf arcs q (paired words)) (numberOf (q .states) from) a r → at dist r ≡ wanted .distance → ⊥)
 
 abbrev μ-loop : tie.MeasureT-loop
 μ-loop arcs words q dist wanted last from k₀ k = last - k
@@ -30,7 +31,7 @@ abbrev Entry : Type 0
 Entry = tie.Start Inv-loop μ-loop
 
 abbrev graph : Entry → Graph
-graph S = graphOf (now (S .args .arcs)) (S .args .q) (now (S .args .words))
+graph S = graphOf (now (S .args .arcs)) (S .args .q) (paired (now (S .args .words)))
 
 abbrev start : Entry → ℕ
 start S = numberOf (S .args .q .states) (S .args .wanted .from)
@@ -48,14 +49,14 @@ state-fits S = omega (arith, S .pre .1 .0 .1 .state-fits, S .pre .0 .few-states)
 -- an edge from the configuration leaves its state
 leaves : (S : Entry) (a r : ℕ) → Step (graph S) (start S) a r → source S a ≡ S .args .wanted .from .state .0
 leaves S a r st =
-    step-moves (now (S .args .arcs)) (S .args .q) (now (S .args .words)) (S .pre .0) (start S) a r st .from-state
+    step-moves (now (S .args .arcs)) (S .args .q) (paired (now (S .args .words))) (S .pre .0) (start S) a r st .from-state
     ∙ digits-mod (S .args .wanted .from .entry .0) (S .pre .1 .0 .1 .state-fits)
 
 -- what `nearer` says of the unpacked edge, of the edge at its number
 told : (S : Entry) (k r : ℕ) (x : Edge) → x ≡ unpackedOf (at (now (S .args .arcs)) k)
-    → Nearer (now (S .args .words)) (now (S .args .dist)) x (S .args .q .states) (start S) (S .args .wanted .distance) r
-    → Nearer (now (S .args .words)) (now (S .args .dist)) (unpackedOf (at (now (S .args .arcs)) k)) (S .args .q .states) (start S) (S .args .wanted .distance) r
-told S k r x e n = subst (λ (y : Edge). Nearer (now (S .args .words)) (now (S .args .dist)) y (S .args .q .states) (start S) (S .args .wanted .distance) r) e n
+    → Nearer (paired (now (S .args .words))) (now (S .args .dist)) x (S .args .q .states) (start S) (S .args .wanted .distance) r
+    → Nearer (paired (now (S .args .words))) (now (S .args .dist)) (unpackedOf (at (now (S .args .arcs)) k)) (S .args .q .states) (start S) (S .args .wanted .distance) r
+told S k r x e n = subst (λ (y : Edge). Nearer (paired (now (S .args .words))) (now (S .args .dist)) y (S .args .q .states) (start S) (S .args .wanted .distance) r) e n
 
 add-last : tie.Need-add-last Inv-loop μ-loop
 add-last c = omega (arith, c .before .before .before .before .pre .0 .few-edges)
@@ -99,10 +100,10 @@ returns c = let S = c .before .before .before .before .before .before .before .b
     let f = subst (EdgeFits (a .q .states)) (sym e) (S .pre .0 .each (l .k) (l .inv .0) lt) in (
       record {
         step =
-            moves-step (now (a .arcs)) (a .q) (now (a .words)) (S .pre .0) (start S) (l .k) (j * a .q .states + x .to .0) (l .inv .0) lt
-            (config-inside (a .wanted .from .entry .0) (a .q .states) (a .wanted .from .state .0) (length (now (a .words))) (S .pre .1 .0 .1 .entry-fits) (S .pre .1 .0 .1 .state-fits))
-            (config-inside j (a .q .states) (x .to .0) (length (now (a .words))) (t .0) (f .to-fits))
-            (subst (λ (y : Edge). Moves (now (a .words)) y (a .q .states) (start S) (j * a .q .states + x .to .0)) e (t .1));
+            moves-step (now (a .arcs)) (a .q) (paired (now (a .words))) (S .pre .0) (start S) (l .k) (j * a .q .states + x .to .0) (l .inv .0) lt
+            (config-inside (a .wanted .from .entry .0) (a .q .states) (a .wanted .from .state .0) (length (paired (now (a .words)))) (S .pre .1 .0 .1 .entry-fits) (S .pre .1 .0 .1 .state-fits))
+            (config-inside j (a .q .states) (x .to .0) (length (paired (now (a .words)))) (t .0) (f .to-fits))
+            (subst (λ (y : Edge). Moves (paired (now (a .words))) y (a .q .states) (start S) (j * a .q .states + x .to .0)) e (t .1));
         near = t .2;
         low = l .inv .2;
       },
@@ -130,7 +131,7 @@ loop-again c = let S = c .before .before .before .before .before .before .before
           ⊎-elim
           (λ x.
           ⊎-elim
-          (λ same. n .none (c .before .if1 .left) r (st .target-in) (step-moves (now (S .args .arcs)) (S .args .q) (now (S .args .words)) (S .pre .0) (start S) (l .k) r (subst (λ (y : ℕ). Step (graph S) (start S) y r) same st)) q)
+          (λ same. n .none (c .before .if1 .left) r (st .target-in) (step-moves (now (S .args .arcs)) (S .args .q) (paired (now (S .args .words))) (S .pre .0) (start S) (l .k) r (subst (λ (y : ℕ). Step (graph S) (start S) y r) same st)) q)
           (λ below. l .inv .2 a r below st q)
           (split a (l .k) x))
           (λ above. L .none a above al (st .below-last) (leaves S a r st))

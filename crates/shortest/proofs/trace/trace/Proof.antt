@@ -3,6 +3,7 @@ use Prim.Native.Nat.{ℕ, _≤_, _<_, _-_, _*_}
 use mathlib.Core.Path.{sym, subst}
 use denote.Ref.{now}
 use lib.ListN.{length}
+use Rattle.reach.specs.Marks.{paired}
 use Rattle.graph.specs.Graph.{Graph}
 use Rattle.graph.specs.Configurations.{graphOf}
 use Rattle.graph.specs.declared.moves.Configuration.{Configuration}
@@ -15,20 +16,20 @@ use Rattle.shortest.proofs.trace.trace.Statement.{statement}
 use Rattle.shortest.proofs.trace.trace.Tie as tie
 
 abbrev Inv-loop : tie.InvT-loop
-Inv-loop arcs words q dist out₀ total here₀ k₀ out here k = (k ≤ total) × Inside (q .states) (length words) here × Traced (graphOf arcs q words) dist out₀ (numberOf (q .states) here₀) out (numberOf (q .states) here) k
+Inv-loop arcs words q dist out₀ total here₀ k₀ out here k = (k ≤ total) × Inside (q .states) (length (paired words)) here × Traced (graphOf arcs q (paired words)) dist out₀ (numberOf (q .states) here₀) out (numberOf (q .states) here) k
 
 abbrev μ-loop : tie.MeasureT-loop
 μ-loop arcs words q dist out₀ total here₀ k₀ out here k = total - k
 
 abbrev graph : tie.Start Inv-loop μ-loop → Graph
-graph S = graphOf (now (S .args .arcs)) (S .args .q) (now (S .args .words))
+graph S = graphOf (now (S .args .arcs)) (S .args .q) (paired (now (S .args .words)))
 
 abbrev begin : tie.Start Inv-loop μ-loop → ℕ
 begin S = numberOf (S .args .q .states) (S .args .start .from)
 
-number-in : (S : tie.Start Inv-loop μ-loop) (c : Configuration) → Inside (S .args .q .states) (length (now (S .args .words))) c
-    → numberOf (S .args .q .states) c < length (now (S .args .words)) * S .args .q .states
-number-in S c i = config-inside (c .entry .0) (S .args .q .states) (c .state .0) (length (now (S .args .words))) (i .entry-fits) (i .state-fits)
+number-in : (S : tie.Start Inv-loop μ-loop) (c : Configuration) → Inside (S .args .q .states) (length (paired (now (S .args .words)))) c
+    → numberOf (S .args .q .states) c < length (paired (now (S .args .words))) * S .args .q .states
+number-in S c i = config-inside (c .entry .0) (S .args .q .states) (c .state .0) (length (paired (now (S .args .words)))) (i .entry-fits) (i .state-fits)
 
 loop-holds : tie.Need-loop-holds Inv-loop μ-loop
 loop-holds c = let S = c .before .before .before .before .before in

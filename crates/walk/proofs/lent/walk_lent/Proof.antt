@@ -1,5 +1,5 @@
 -- `walk_lent` meets its contract: judging asks questions 31 and 32, and its words carry the rest. Assumes nothing.
-use Prim.Native.Nat.{_≤_}
+use Prim.Native.Nat.{_*_, _≤_}
 use mathlib.Core.Path.{_≡_, refl, sym, ap, _∙_}
 use mathlib.Core.Bool.{Bool, true}
 use denote.Ref.{now}
@@ -8,6 +8,7 @@ use Rattle.aldlf.specs.Sheet.{sheetOf}
 use Rattle.aldlf.specs.Walks.{walkOutcome}
 use Rattle.aldlf.specs.declared.Table.{Table}
 use Rattle.packing.specs.Packed.{Packed}
+use Rattle.reach.specs.Marks.{paired}
 use Rattle.sheet.specs.Given.{wellFormed}
 use Rattle.sheet.proofs.Facts.{table-facts}
 use Rattle.walk.specs.Search.{JudgedLog, LentLog}
@@ -17,8 +18,8 @@ use borrow.Author.Needs.{needs}
 use Rattle.walk.proofs.lent.walk_lent.Statement.{statement}
 use Rattle.walk.proofs.lent.walk_lent.Tie as tie
 
--- the log was accepted: 31 and 32 got a yes, and the words are its verdict words
-accepted : (c : tie.After-enum-told) → let S = c .before .before .before .before .before .before .before .before in (t : Table) → Packed t (now (S .args .numbers)) → let words = take (length (now (S .args .log))) (c .before .before .before .judge-lent .last .1 .1 .0) in (wellFormed t ≡ true) × JudgedLog t words (now (S .args .log))
+-- the log was accepted: 31 and 32 got a yes, and the words are its verdicts
+accepted : (c : tie.After-enum-told) → let S = c .before .before .before .before .before .before .before .before in (t : Table) → Packed t (now (S .args .numbers)) → let words = paired (take (2 * length (now (S .args .log))) (c .before .before .before .judge-lent .last .1 .1 .0)) in (wellFormed t ≡ true) × JudgedLog t words (now (S .args .log))
 accepted c t P =
     let S = c .before .before .before .before .before .before .before .before in
     let j = c .before .before .before .judge-lent in
@@ -30,7 +31,7 @@ room c =
     let j = c .before .before .before .judge-lent in
     accepted-room (S .pre .0) (now (S .args .log)) _ (j .last .1 .1 .0) (j .result) (c .enum-told .given .0 .0) (c .enum-told .given .1) (j .ensures .0 (S .pre .0) (S .pre .1))
 
-lent-log : (c : tie.After-enum-told) → let S = c .before .before .before .before .before .before .before .before in (t : Table) → Packed t (now (S .args .numbers)) → LentLog t (now (S .args .numbers)) (take (length (now (S .args .log))) (c .before .before .before .judge-lent .last .1 .1 .0)) (now (S .args .log))
+lent-log : (c : tie.After-enum-told) → let S = c .before .before .before .before .before .before .before .before in (t : Table) → Packed t (now (S .args .numbers)) → LentLog t (now (S .args .numbers)) (paired (take (2 * length (now (S .args .log))) (c .before .before .before .judge-lent .last .1 .1 .0))) (now (S .args .log))
 lent-log c t P = let a = accepted c t P in record { lent = record { facts = table-facts t (a .0); packed = P }; judged = a .1 }
 
 slice-aggregate-judge-lent : tie.Need-slice-aggregate-judge-lent
@@ -52,6 +53,9 @@ returns c =
 enum-told : tie.Need-enum-told
 enum-told c = search needs
 
+mul-words : tie.Need-mul-words
+mul-words c = omega (arith, room c)
+
 array-share-prefix-words : tie.Need-array-share-prefix-words
 array-share-prefix-words c = omega (arith, c .before .before .before .judge-lent .kept .1 .1 .0, room c)
 
@@ -59,7 +63,7 @@ slice-aggregate-walk-judged : tie.Need-slice-aggregate-walk-judged
 slice-aggregate-walk-judged c =
     let S = c .before .before .before .before .before .before .before .before .before in
     let j = c .before .before .before .before .judge-lent in
-    omega (arith, length-take (length (now (S .args .log))) (j .last .1 .1 .0), j .kept .1 .1 .0, room (c .before))
+    omega (arith, length-take (2 * length (now (S .args .log))) (j .last .1 .1 .0), j .kept .1 .1 .0, room (c .before))
 
 walk-judged-requires : tie.Need-walk-judged-requires
 walk-judged-requires c κs = let S = c .before .before .before .before .before .before .before .before .before .before in
@@ -84,6 +88,7 @@ walk-lent-spec =
     enum-known-judged
     returns
     enum-told
+    mul-words
     array-share-prefix-words
     slice-aggregate-walk-judged
     walk-judged-requires

@@ -1,7 +1,9 @@
 -- `find` meets its contract: either room is large enough. Assumes nothing.
-use Prim.Native.Nat.{ℕ, _≤_, _*_}
-use mathlib.Core.Path.{sym}
+use Prim.Native.Nat.{ℕ, _≤_, _*_, _/_}
+use mathlib.Core.Path.{_≡_, sym, subst, ap, _∙_}
 use denote.Ref.{now}
+use Rattle.reach.specs.Marks.{paired}
+use Rattle.reach.proofs.Paired.{length-paired}
 use lib.ListN.{length}
 use Rattle.graph.proofs.Steps.{size-small}
 use Rattle.walk.proofs.Room.{room-long, room-clear}
@@ -12,10 +14,13 @@ use Rattle.walk.proofs.search.find.Tie as tie
 
 -- as many configurations as there are
 abbrev size : tie.Start → ℕ
-size S = length (now (S .args .words)) * S .args .query .automaton .states
+size S = length (now (S .args .words)) / 2 * S .args .query .automaton .states
+
+size-is : (S : tie.Start) → size S ≡ length (paired (now (S .args .words))) * S .args .query .automaton .states
+size-is S = ap (λ (n : ℕ). n * S .args .query .automaton .states) (sym (length-paired (now (S .args .words))))
 
 small : (S : tie.Start) → size S ≤ 8192
-small S = size-small (now (S .args .arcs)) (S .args .query .automaton) (now (S .args .words)) (S .pre .0)
+small S = subst (λ (n : ℕ). n ≤ 8192) (sym (size-is S)) (size-small (now (S .args .arcs)) (S .args .query .automaton) (paired (now (S .args .words))) (S .pre .0))
 
 cast-states : tie.Need-cast-states
 cast-states c = search needs
@@ -35,7 +40,7 @@ slice-aggregate-search-2 c = search needs
 search-requires : tie.Need-search-requires
 search-requires c κs = let S = c .before .before .before .before .before .before .before .before in
     let t = c .before .before .before .if1 .taken in
-    (S .pre .0, (S .pre .1, ((room-long 512 (size S) t, omega (arith, room-long 512 (size S) t)), room-clear 512 (size S) t)))
+    (S .pre .0, (S .pre .1, ((room-long 512 (size S) t ∙ size-is S, omega (arith, room-long 512 (size S) t)), room-clear 512 (size S) t)))
 
 same-length : tie.Need-same-length
 same-length c = search needs
@@ -55,7 +60,7 @@ slice-aggregate-search-4 c = search needs
 search-requires-2 : tie.Need-search-requires-2
 search-requires-2 c κs = let S = c .before .before .before .before .before .before .before .before in
     let t = small S in
-    (S .pre .0, (S .pre .1, ((room-long 8192 (size S) t, omega (arith, room-long 8192 (size S) t)), room-clear 8192 (size S) t)))
+    (S .pre .0, (S .pre .1, ((room-long 8192 (size S) t ∙ size-is S, omega (arith, room-long 8192 (size S) t)), room-clear 8192 (size S) t)))
 
 same-length-2 : tie.Need-same-length-2
 same-length-2 c = search needs

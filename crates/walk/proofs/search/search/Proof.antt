@@ -1,5 +1,6 @@
 -- `search` meets its contract: the walk falls along the distances just found. Assumes nothing.
 use denote.Ref.{now}
+use Rattle.reach.specs.Marks.{paired}
 use Rattle.graph.specs.Configurations.{graphOf, startOf}
 use Rattle.shortest.specs.Goals.{GoalAt}
 use Rattle.shortest.proofs.Greedy.{descends}
@@ -16,7 +17,7 @@ show-requires c κs = let S = c .before .before .before .before .before .before 
       S .pre .0,
       (
         S .pre .1 .0,
-        descends (graphOf (now (S .args .arcs)) q (now (S .args .words))) (GoalAt (now (S .args .words)) q (S .args .query .goal)) _ (startOf q (S .args .query .entry .0)) (c .before .before .before .before .before .before .distances .ensures),
+        descends (graphOf (now (S .args .arcs)) q (paired (now (S .args .words)))) (GoalAt (paired (now (S .args .words))) q (S .args .query .goal)) _ (startOf q (S .args .query .entry .0)) (c .before .before .before .before .before .before .distances .ensures),
       ),
     )
 

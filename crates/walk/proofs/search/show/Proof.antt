@@ -3,6 +3,7 @@ use Prim.Native.Nat.{ℕ, _<_, _*_}
 use mathlib.Core.Path.{_≡_, refl, sym, ap, _∙_}
 use mathlib.Core.Logic.{inl, inr}
 use denote.Ref.{now}
+use Rattle.reach.specs.Marks.{paired}
 use lib.ListN.{length}
 use Rattle.graph.specs.Graph.{at}
 use Rattle.graph.specs.Configurations.{startOf}
@@ -16,9 +17,9 @@ use Rattle.walk.proofs.search.show.Tie as tie
 abbrev start : tie.Start → ℕ
 start S = startOf (S .args .query .automaton) (S .args .query .entry .0)
 
-start-in-graph : (S : tie.Start) → start S < length (now (S .args .words)) * S .args .query .automaton .states
+start-in-graph : (S : tie.Start) → start S < length (paired (now (S .args .words))) * S .args .query .automaton .states
 start-in-graph S =
-    start-in (now (S .args .arcs)) (S .args .query .automaton) (now (S .args .words)) (S .pre .0) (S .args .query .entry .0) (S .pre .1 .0 .entry-fits) (S .pre .1 .0 .start-fits)
+    start-in (now (S .args .arcs)) (S .args .query .automaton) (paired (now (S .args .words))) (S .pre .0) (S .args .query .entry .0) (S .pre .1 .0 .entry-fits) (S .pre .1 .0 .start-fits)
 
 total-is : (S : tie.Start) (c : ℕ) → c ≡ start S → at (now (S .args .dist)) (start S) ≡ at (now (S .args .dist)) c
 total-is S c e = ap (at (now (S .args .dist))) (sym e)
