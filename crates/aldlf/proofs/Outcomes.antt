@@ -6,7 +6,7 @@ use mathlib.Core.Logic.{Iff·trans}
 use mathlib.Core.Bool.{Bool, true, false}
 use mathlib.Core.List.{List, [], _∷_, _++_}
 use lib.Dec.{leb}
-use lib.ListN.{getD, length, take, drop, length-append, length-drop, List·getD-append}
+use lib.ListN.{length, take, drop, length-append, length-drop, List·getD-append}
 use lib.Seq.{take-at, drop-append-seam}
 use borrow.Author.Tests.{leb-true}
 use Rattle.aldlf.specs.Constants.{nodeLimit, wordBits}

@@ -24,7 +24,7 @@ module _ {X : Type 0} (fits : X → Bool) (f : ℕ → X) where
   unfolding listed allOf
   fit-none = refl
 
-  fit-next : (k : ℕ) (fit b : Bool) → fit ≡ allOf fits (listed k f) → b ≡ fits (f k) → fit && b ≡ allOf fits (listed (k + 1) f)
+  pub fit-next : (k : ℕ) (fit b : Bool) → fit ≡ allOf fits (listed k f) → b ≡ fits (f k) → fit && b ≡ allOf fits (listed (k + 1) f)
   unfolding allOf
   fit-next k fit b e h =
       ap (λ (a : Bool). a && b) e
@@ -56,13 +56,18 @@ module _ {X : Type 0} (fits : X → Bool) (in-number : ℕ → X) (cut : X → X
         put = put-at (λ (j p : ℕ). in-number p ≡ getD (listed n (λ i. cut (f i))) j none) place k i before after v e l (S .put) (ev ∙ sym (listed-at n (λ i. cut (f i)) k none h));
       }
 
-  pub lent-all : (k : ℕ) (fit : Bool) (after : List ℕ) → Some k fit after → n ≤ k
-      → (fit ≡ allOf fits (listed n f)) × Put (λ (j p : ℕ). in-number p ≡ getD (listed n (λ i. cut (f i))) j none) place n before after
-  lent-all k fit after S h =
-      let e : k ≡ n = omega (arith, S .below) in (
+  -- the first m were passed
+  pub lent-first : (m k : ℕ) (fit : Bool) (after : List ℕ) → Some k fit after → k ≤ m → m ≤ k
+      → (fit ≡ allOf fits (listed m f)) × Put (λ (j p : ℕ). in-number p ≡ getD (listed n (λ i. cut (f i))) j none) place m before after
+  lent-first m k fit after S l h =
+      let e : k ≡ m = omega arith in (
         S .all ∙ ap (λ (m : ℕ). allOf fits (listed m f)) e,
         subst (λ (m : ℕ). Put (λ (j p : ℕ). in-number p ≡ getD (listed n (λ i. cut (f i))) j none) place m before after) e (S .put),
       )
+
+  pub lent-all : (k : ℕ) (fit : Bool) (after : List ℕ) → Some k fit after → n ≤ k
+      → (fit ≡ allOf fits (listed n f)) × Put (λ (j p : ℕ). in-number p ≡ getD (listed n (λ i. cut (f i))) j none) place n before after
+  lent-all k fit after S h = lent-first n k fit after S (S .below) h
 
 -- the bytes of the edges: four of them are an edge, which fits where each of the four does
 module _ (xs : List ℕ) where

@@ -1,8 +1,8 @@
 -- Only for the contracts of the code's own functions: what stands in the numbers, with each field of one byte cut to its low byte.
-use Prim.Native.Nat.{ℕ, _+_, _*_, _%_, _<_}
+use Prim.Native.Nat.{ℕ, _+_, _*_, _%_, _≤_, _<_}
 use mathlib.Core.Path.{_≡_}
 use mathlib.Core.List.{List}
-use lib.ListN.{length}
+use lib.ListN.{length, getD}
 use Rattle.aldlf.specs.Constants.{nodeLimit, automatonLimit, edgeLimit}
 use Rattle.aldlf.specs.declared.NodeLine.{NodeLine}
 use Rattle.aldlf.specs.declared.Automaton.{Automaton}
@@ -43,3 +43,11 @@ edgeBytes = edgeSize * edgeLimit
 pub record EdgesCut (xs bytes : List ℕ) : Type 0 where
   pub size : length bytes ≡ edgeBytes
   pub edge-is : (k : ℕ) → k < edgeLimit → edgeAt bytes (edgeSize * k) ≡ edgeCut (edgeAt xs (edgesPlace + edgeSize * k))
+
+-- the first n node lines that stand in the numbers
+abbrev pub firstLines : List ℕ → ℕ → List NodeLine
+firstLines xs n = listed n (λ k. lineAt xs (lineSize * k))
+
+-- the numbers of the node lines from n on are all zeros
+abbrev pub NoLinesFrom : List ℕ → ℕ → Type 0
+NoLinesFrom xs n = (i : ℕ) → lineSize * n ≤ i → i < automataPlace → getD xs i 0 ≡ 0

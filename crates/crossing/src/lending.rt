@@ -13,7 +13,8 @@ use packing::places::LINES;
 use packing::places::RANGES;
 use packing::places::USED;
 ghost use mathlib.Core.Path.{_≡_};
-ghost use Prim.Native.Nat.{ℕ, _+_, _*_, _%_, _≤_, _<_};
+ghost use mathlib.Core.Bool.{true};
+ghost use Prim.Native.Nat.{ℕ, _+_, _*_, _-_, _%_, _≤_, _<_};
 ghost use lib.ListN.{length, getD};
 ghost use Rattle.aldlf.specs.Constants.{nodeLimit, automatonLimit, edgeLimit};
 ghost use Rattle.aldlf.specs.Sheet.{noLine, noEdge};
@@ -21,7 +22,7 @@ ghost use Rattle.sheet.specs.Questions.{emptyTable};
 ghost use Rattle.packing.specs.Numbers.{linesPlace, places, edgeIn, lineIn};
 ghost use Rattle.packing.specs.Packed.{Packed, Put, HeadPut, HeadsPut, UsedPut};
 ghost use Rattle.crossing.specs.Numbers.{lineSize, automatonSize, edgeSize, usedPlace, tableSize, lineAt, automatonAt, edgeAt, usedAt, linesIn, automataIn, edgesIn, lineFits, automatonFits, edgeFits, usedFits, allOf, fieldsIn, tableFits, tableOf};
-ghost use Rattle.crossing.specs.Steps.{edgeBytes, lineCut, automatonCut, cutIn, EdgesCut};
+ghost use Rattle.crossing.specs.Steps.{edgeBytes, firstLines, NoLinesFrom, lineCut, automatonCut, cutIn, EdgesCut};
 
 // How many bytes the edges take.
 const EDGE_BYTES: usize = EDGE * aldlf::EDGES;
@@ -101,19 +102,71 @@ fn put_edges(bytes: &[u8], numbers: &mut [u32])
     }
 }
 
+// The node lines. Those past the nodes in use are most often all zeros: they are cleared and not converted, so that a small sheet does not pay for the limit.
 fn lend_lines(xs: &[u16], numbers: &mut [u32]) -> bool
     requires { ⌜ (length (now xs) ≡ tableSize) × (length (now numbers) ≡ places) ⌝ }
     ensures { λ r. ⌜ (r ≡ allOf lineFits (linesIn (now (xs .entry)))) × Put (λ (k p : ℕ). lineIn p ≡ getD (cutIn (now (xs .entry)) .nodes) k noLine) linesPlace nodeLimit (now (numbers .entry)) (now (numbers .exit)) ⌝ }
 {
+    let n = lines_to_lend(xs);
+    let fit = lend_first_lines(n, xs, numbers);
+    clear_lines(n, numbers);
+    fit
+}
+
+// How many node lines are to be converted: those in use, or all where a number stands past them.
+fn lines_to_lend(xs: &[u16]) -> usize
+    requires { ⌜ length (now xs) ≡ tableSize ⌝ }
+    ensures { λ r. ⌜ (r ≤ nodeLimit) × NoLinesFrom (now (xs .entry)) r ⌝ }
+{
+    let used = wide(xs[USED_PLACE]) as usize;
+    if used < aldlf::NODES {
+        if no_lines_from(xs, used) {
+            return used;
+        }
+    }
+    aldlf::NODES
+}
+
+// Whether the numbers of the node lines from n on are all zeros; with no way out of the loop, so that the machine does many places at a time.
+fn no_lines_from(xs: &[u16], n: usize) -> bool
+    requires { ⌜ (length (now xs) ≡ tableSize) × (n ≤ nodeLimit) ⌝ }
+    ensures { λ r. ⌜ (r ≡ true → NoLinesFrom (now (xs .entry)) n) ⌝ }
+{
+    let mut rest: u16 = 0;
+    let mut i = LINE * n;
+    while i < LINE * aldlf::NODES {
+        rest = rest | xs[i];
+        i += 1;
+    }
+    rest == 0
+}
+
+// The first n node lines, each cut, and whether none of their numbers was too large.
+fn lend_first_lines(n: usize, xs: &[u16], numbers: &mut [u32]) -> bool
+    requires { ⌜ (n ≤ nodeLimit) × (length (now xs) ≡ tableSize) × (length (now numbers) ≡ places) ⌝ }
+    ensures { λ r. ⌜ (r ≡ allOf lineFits (firstLines (now (xs .entry)) n)) × Put (λ (k p : ℕ). lineIn p ≡ getD (cutIn (now (xs .entry)) .nodes) k noLine) linesPlace n (now (numbers .entry)) (now (numbers .exit)) ⌝ }
+{
     let mut fit = true;
     let mut k: usize = 0;
-    while k < aldlf::NODES {
+    while k < n {
         let p = LINE * k;
         fit = fit & line_fits(xs, p);
         numbers[LINES + k] = line_number(xs, p);
         k += 1;
     }
     fit
+}
+
+// The lent numbers of the node lines from n on, all zeros: what was lent before is not to be read there.
+fn clear_lines(n: usize, numbers: &mut [u32])
+    requires { ⌜ (n ≤ nodeLimit) × (length (now numbers) ≡ places) ⌝ }
+    ensures { λ _. ⌜ Put (λ (k p : ℕ). p ≡ 0) (linesPlace + n) (nodeLimit - n) (now (numbers .entry)) (now (numbers .exit)) ⌝ }
+{
+    let mut k = n;
+    while k < aldlf::NODES {
+        numbers[LINES + k] = 0;
+        k += 1;
+    }
 }
 
 fn lend_automata(xs: &[u16], numbers: &mut [u32]) -> bool

@@ -19,7 +19,7 @@ use Rattle.aldlf.specs.declared.Way.{Way}
 use Rattle.aldlf.specs.declared.Way.the-variants.{Ahead, Back}
 use Rattle.stands.specs.declared.lent.Looks.{Looks}
 use Rattle.sheet.specs.Facts.{nodeAt, automatonAt, Lent}
-use Rattle.reach.specs.Marks.{at, pick, paired, verdictAdded, Reaching}
+use Rattle.reach.specs.Marks.{at, pick, verdictAdded, Reaching}
 use Rattle.reach.specs.Columns as steps
 use Rattle.judge.specs.declared.core.Part.{Part}
 use Rattle.judge.specs.declared.core.CoreAnswer.{CoreAnswer}

@@ -1,20 +1,20 @@
 -- The columns of a whole log: entries that agree on the tested nodes share them; one entry more; what edges look at, one edge more.
 use Prim.Native.Nat.{ℕ, _+_, _*_, _^_, _≤_, _<_}
 use native.Mathlib.Omega.{arith}
-use mathlib.Core.Path.{_≡_, refl, sym, subst, ap, _∙_}
+use mathlib.Core.Path.{_≡_, sym, subst, ap, _∙_}
 use mathlib.Core.Logic.{_⊎_, inl, inr}
-use mathlib.Core.Bool.{Bool, true, false}
+use mathlib.Core.Bool.{true, false}
 use mathlib.Core.List.{List}
 use lib.Bits.{bitOr}
 use lib.Dec.{eqb}
 use lib.ListN.{length, set, length-set}
 use lib.Seq.{getD-set-same, getD-set-other}
 use borrow.Author.Tests.{eqb-true, eqb-false}
-use Rattle.aldlf.specs.Constants.{nodeLimit, stateLimit}
+use Rattle.aldlf.specs.Constants.{nodeLimit}
 use Rattle.aldlf.specs.Sheet.{bit}
 use Rattle.aldlf.proofs.Bools.{bool-cases}
-use Rattle.reach.specs.Marks.{at, toOf, dirIn, testOf, EdgesFit}
-use Rattle.reach.specs.Columns.{columnOf, Step, Back, Apart, Columns, Placed, Filled, Filling}
+use Rattle.reach.specs.Marks.{at, dirIn, testOf, EdgesFit}
+use Rattle.reach.specs.Columns.{columnOf, Step, Apart, Columns, Placed, Filled, Filling}
 use Rattle.reach.specs.Tests.{inSet, Tested}
 use Rattle.reach.specs.declared.filling.NodeSet.{NodeSet}
 use Rattle.reach.proofs.Bits.{in-left, in-right, one-self}

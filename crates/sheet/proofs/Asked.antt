@@ -9,7 +9,6 @@ use native.Mathlib.Nat.{div-eq-of-lt, lt-of-lt-of-le}
 use lib.Pow.{pow-mono}
 use lib.ListN.{length, getD, drop, set, replicate, length-set, List·getD-eq-default, drop-of-length-le}
 use lib.Seq.{drop-cons}
-use lib.Dec.{eqb}
 use borrow.Author.Tests.{ne-eqb, not-true, not-false}
 use Rattle.aldlf.specs.Constants.{nodeLimit, letterT, letterF, letterP, letterN, letterA, letterO}
 use Rattle.aldlf.specs.Sheet.{bit, noLine}

@@ -1,6 +1,5 @@
 -- What judging answers, as the walk takes it: a refusal is the walk's own, and an accepted log's words are lent on.
 use Prim.Native.Nat.{ℕ, zero, suc, _*_, _≤_}
-use native.Mathlib.Omega.{arith}
 use mathlib.Core.Path.{_≡_, refl, sym, ap, _∙_}
 use mathlib.Core.Bool.{Bool, true, false, false≢true}
 use mathlib.Core.List.{List}
@@ -39,9 +38,9 @@ module _ (t : Table) (log words after : List ℕ) (r : Judged) where
   room = leb (2 * length log) (length words)
 
   pub refused-first : (q : ℕ) → r ≡ judged.Refused q → wholeOf r after ≡ wholeOutcome (wellFormed t) S log words → isHeld r ≡ eqb (wholeNumber (wellFormed t) log words) 0
-      → length words ≡ 2 * entryLimit → (k i : ℕ) (edges : List ℕ) → answerOf (Refused q) edges ≡ walkOutcome (wellFormed t) S log k i edges
+      → (length log ≤ entryLimit → 2 * length log ≤ length words) → (k i : ℕ) (edges : List ℕ) → answerOf (Refused q) edges ≡ walkOutcome (wellFormed t) S log k i edges
   unfolding answerOf wholeNumber
-  refused-first q e w held big k i edges =
+  refused-first q e w held fit k i edges =
       let first = wholeNumber (wellFormed t) log words in
       let number : q ≡ first = ap (λ (x : Judged). wholeOf x after .number) (sym e) ∙ (ap (λ (x : Whole). x .number) w ∙ whole-number (wellFormed t) S log words) in
       let no : eqb first 0 ≡ false = sym (ap isHeld (sym e) ∙ held) in
@@ -50,7 +49,7 @@ module _ (t : Table) (log words after : List ℕ) (r : Judged) where
       has-room : logFits log ≡ true → room ≡ true
       has-room f =
           let l : length log ≤ 512 = leb-true (length log) 512 (and-right (leb 1 (length log)) (leb (length log) 512) f) in
-          le-leb (2 * length log) (length words) (omega arith)
+          le-leb (2 * length log) (length words) (fit l)
 
   pub accepted-log : (n : ℕ) → r ≡ judged.Held n → wholeOf r after ≡ wholeOutcome (wellFormed t) S log words → (wellFormed t ≡ true) × JudgedLog t (paired (take (2 * length log) after)) log
   accepted-log n e w =
@@ -60,6 +59,6 @@ module _ (t : Table) (log words after : List ℕ) (r : Judged) where
       let yes = whole-yes (wellFormed t) S log words z in
       (yes .0, record { fits = yes .1; words-are = ap paired (ap (λ (x : Whole). take (2 * length log) (x .buffer)) is ∙ whole-words (wellFormed t) S log words z) ∙ paired-halves (partVerdicts S (plain S) log) })
 
-  -- so there are words for all entries
+  -- so it has no more entries than a log may have
   pub accepted-room : (n : ℕ) → r ≡ judged.Held n → wholeOf r after ≡ wholeOutcome (wellFormed t) S log words → length log ≤ 512
   accepted-room n e w = leb-true (length log) 512 (and-right (leb 1 (length log)) (leb (length log) 512) (accepted-log n e w .1 .fits))

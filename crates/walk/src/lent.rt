@@ -16,7 +16,9 @@ use packing::places::used_in;
 ghost use mathlib.Core.Path.{_≡_};
 ghost use mathlib.Core.Bool.{true};
 ghost use mathlib.Core.List.{List};
-ghost use Prim.Native.Nat.{ℕ};
+ghost use Prim.Native.Nat.{ℕ, _*_, _≤_};
+ghost use lib.ListN.{length};
+ghost use Rattle.aldlf.specs.Constants.{entryLimit};
 ghost use Rattle.aldlf.specs.Sheet.{sheetOf};
 ghost use Rattle.aldlf.specs.Walks.{walkOutcome};
 ghost use Rattle.aldlf.specs.declared.Table.{Table};
@@ -26,7 +28,10 @@ ghost use Rattle.sheet.specs.Given.{wellFormed};
 ghost use Rattle.walk.specs.Answer.{answerOf};
 ghost use Rattle.walk.specs.Search.{modalOf, LentLog};
 
-// The walk, as `walk` gives it. Judging asks questions 31 and 32.
+// A log of so many entries is judged in small scratch.
+const FEW: usize = 32;
+
+// The walk, as `walk` gives it. Judging asks questions 31 and 32; its scratch is small where the log is, so that a short log pays for clearing no large one.
 pub fn walk_lent(
     numbers: &[u32],
     log: &[u32],
@@ -38,8 +43,29 @@ pub fn walk_lent(
     ensures { λ r. ⌜ ((t : Table) → Packed t (now (numbers .entry))
         → answerOf r (now (edges .exit)) ≡ walkOutcome (wellFormed t) (sheetOf t) (now (log .entry)) (node .0) (entry .0) (now (edges .entry))) ⌝ }
 {
+    if log.len() <= FEW {
+        let mut words = [0u64; 2 * FEW];
+        return walk_in(numbers, log, node, entry, &mut words, edges);
+    }
     let mut words = [0u64; 2 * aldlf::ENTRIES];
-    let judged = judge_lent(numbers, log, &mut words);
+    walk_in(numbers, log, node, entry, &mut words, edges)
+}
+
+// The same in lent scratch: judging puts the log's verdict words in its first places.
+fn walk_in(
+    numbers: &[u32],
+    log: &[u32],
+    node: Node,
+    entry: Entry,
+    words: &mut [u64],
+    edges: &mut [u16],
+) -> WalkAnswer
+    requires { ⌜ ((t : Table) × Packed t (now numbers)) ⌝ }
+    requires { ⌜ (length (now log) ≤ entryLimit → 2 * length (now log) ≤ length (now words)) ⌝ }
+    ensures { λ r. ⌜ ((t : Table) → Packed t (now (numbers .entry))
+        → answerOf r (now (edges .exit)) ≡ walkOutcome (wellFormed t) (sheetOf t) (now (log .entry)) (node .0) (entry .0) (now (edges .entry))) ⌝ }
+{
+    let judged = judge_lent(numbers, log, words);
     if let Judged::Refused(number) = judged {
         return WalkAnswer::Refused(number);
     }

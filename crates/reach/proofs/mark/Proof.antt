@@ -6,7 +6,6 @@ use Rattle.reach.specs.Columns.{Placed}
 use Rattle.reach.specs.Marks.{paired}
 use borrow.Author.Tests.{not-true}
 use denote.Ref.{now}
-use lib.ListN.{length}
 use mathlib.Core.Path.{sym, subst, _∙_}
 use native.Mathlib.Omega.{arith}
 use borrow.Author.Needs.{needs}

@@ -6,8 +6,7 @@ use Rattle.reach.specs.Marks.{at, paired, verdictAdded}
 use borrow.Author.Needs.{needs}
 use denote.Ref.{now}
 use lib.ListN.{set}
-use mathlib.Core.List.{List}
-use mathlib.Core.Path.{_≡_, sym, subst, ap, _∙_}
+use mathlib.Core.Path.{sym, subst, ap, _∙_}
 use native.Mathlib.Omega.{arith}
 use Rattle.reach.proofs.put_verdict.Statement.{statement}
 use Rattle.reach.proofs.put_verdict.Tie as tie

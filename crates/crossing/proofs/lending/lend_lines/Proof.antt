@@ -1,79 +1,34 @@
--- `lend_lines` meets its contract: those passed stand in their places, and it is known whether they fit. Assumes nothing.
-use Prim.Native.Nat.{_+_, _*_, _-_}
-use Rattle.aldlf.specs.Constants.{nodeLimit}
-use Rattle.aldlf.specs.Sheet.{noLine}
-use Rattle.crossing.proofs.Lent.{SoFar, lent-none, lent-next, lent-all}
-use Rattle.crossing.specs.Numbers.{lineSize, lineAt, lineFits}
-use Rattle.crossing.specs.Steps.{lineCut}
-use Rattle.packing.specs.Numbers.{linesPlace, lineIn}
+-- `lend_lines` meets its contract: the first lines converted, and zeros for the others, which have no number. Assumes nothing.
+use Rattle.crossing.proofs.Rest.{lines-lent}
 use borrow.Author.Needs.{needs}
 use denote.Ref.{now}
-use native.Mathlib.Omega.{arith}
 use Rattle.crossing.proofs.lending.lend_lines.Statement.{statement}
 use Rattle.crossing.proofs.lending.lend_lines.Tie as tie
 
-abbrev Inv-loop : tie.InvT-loop
-Inv-loop xs numbers₀ fit₀ k₀ numbers fit k = SoFar lineFits lineIn lineCut (λ i. lineAt xs (lineSize * i)) noLine linesPlace nodeLimit k fit numbers₀ numbers
+lines-to-lend-requires : tie.Need-lines-to-lend-requires
+lines-to-lend-requires c κs = search needs
 
-abbrev μ-loop : tie.MeasureT-loop
-μ-loop xs numbers₀ fit₀ k₀ numbers fit k = nodeLimit - k
+lend-first-lines-requires : tie.Need-lend-first-lines-requires
+lend-first-lines-requires c κs = search needs
 
-loop-holds : tie.Need-loop-holds Inv-loop μ-loop
-loop-holds c = let S = c .before .before in
-    lent-none lineFits lineIn lineCut (λ i. lineAt (now (S .args .xs)) (lineSize * i)) noLine linesPlace nodeLimit (now (S .args .numbers))
+clear-lines-requires : tie.Need-clear-lines-requires
+clear-lines-requires c κs = search needs
 
-mul-p : tie.Need-mul-p Inv-loop μ-loop
-mul-p c = search needs
+same-length : tie.Need-same-length
+same-length c = search needs
 
-line-fits-requires : tie.Need-line-fits-requires Inv-loop μ-loop
-line-fits-requires c κs = search needs
-
-line-number-requires : tie.Need-line-number-requires Inv-loop μ-loop
-line-number-requires c κs = search needs
-
-add-numbers : tie.Need-add-numbers Inv-loop μ-loop
-add-numbers c = search needs
-
-mul-numbers : tie.Need-mul-numbers Inv-loop μ-loop
-mul-numbers c = search needs
-
-slice-write-numbers : tie.Need-slice-write-numbers Inv-loop μ-loop
-slice-write-numbers c = search needs
-
-add-k : tie.Need-add-k Inv-loop μ-loop
-add-k c = search needs
-
-loop-less : tie.Need-loop-less Inv-loop μ-loop
-loop-less c = search needs
-
-loop-again : tie.Need-loop-again Inv-loop μ-loop
-loop-again c = let S = c .before .before .before .before .before .before in
-    let l = c .before .before .before .loop in
-    lent-next lineFits lineIn lineCut (λ i. lineAt (now (S .args .xs)) (lineSize * i)) noLine linesPlace nodeLimit (now (S .args .numbers)) (l .k) (linesPlace + l .k) (l .fit) _ (l .numbers) (c .line-number .result) (l .inv) (c .before .before .loop-test .taken) (omega arith) (omega (arith, c .before .before .loop-test .taken, l .inv .put .same, S .pre .1)) (c .before .line-fits .ensures) (c .line-number .ensures)
-
-same-length : tie.Need-same-length Inv-loop μ-loop
-same-length c = c .before .loop .inv .put .same
-
-returns : tie.Need-returns Inv-loop μ-loop
-returns c = let S = c .before .before .before .before in
-    let l = c .before .loop in
-    lent-all lineFits lineIn lineCut (λ i. lineAt (now (S .args .xs)) (lineSize * i)) noLine linesPlace nodeLimit (now (S .args .numbers)) (l .k) (l .fit) (l .numbers) (l .inv) (c .loop-test .left)
+returns : tie.Need-returns
+returns c =
+    let S = c .before .before .before .before .before .before .before .before .before .before .before in
+    let n = c .before .before .before .before .before .before .before .before .lines-to-lend in
+    lines-lent (now (S .args .xs)) (n .result) (n .ensures .1) _ (now (S .args .numbers)) _ _ (n .ensures .0) (c .before .before .before .before .before .before .lend-first-lines .ensures) (c .before .before .clear-lines .ensures)
 
 pub lend-lines-spec : {M : Type 1} → statement M
 lend-lines-spec =
     tie.close
     (tie.spec
-    Inv-loop
-    μ-loop
-    loop-holds
-    mul-p
-    line-fits-requires
-    line-number-requires
-    add-numbers
-    mul-numbers
-    slice-write-numbers
-    add-k
-    loop-less
-    loop-again
+    lines-to-lend-requires
+    lend-first-lines-requires
+    clear-lines-requires
     same-length
     returns)

@@ -22,7 +22,7 @@ slice-aggregate-judge-in-3 c = search needs
 judge-in-requires : tie.Need-judge-in-requires
 judge-in-requires c κs = let S = c .before .before .before .before .before .before .before .before in
     let few = c .before .before .before .before .if1 .taken in
-    (S .pre .0, (S .pre .1, ((omega arith, omega arith, few), λ i. zeros-at 64 i)))
+    (S .pre .0, (S .pre .1, ((omega arith, omega arith, few), λ i. zeros-at (2 * 32) i)))
 
 same-length : tie.Need-same-length
 same-length c = search needs

@@ -7,7 +7,6 @@ use lib.ListN.{drop, length}
 use lib.Seq.{length-take-le}
 use mathlib.Core.List.{_++_}
 use mathlib.Core.Path.{_∙_, _≡_, sym}
-use native.Mathlib.Omega.{arith}
 use Rattle.judge.proofs.core.judge_in.Statement.{statement}
 use Rattle.judge.proofs.core.judge_in.Tie as tie
 use Rattle.judge.proofs.core.judge_in.Reads as reads

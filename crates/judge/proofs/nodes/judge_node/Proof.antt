@@ -3,7 +3,6 @@ use Rattle.judge.proofs.KnownLaws.{asks, known-few, known-low, modal-do
 use borrow.Author.Tests.{not-false, not-true}
 use denote.Ref.{now}
 use Rattle.reach.specs.Marks.{paired}
-use lib.ListN.{length}
 use mathlib.Core.Path.{_∙_, sym}
 use native.Mathlib.Omega.{arith}
 use borrow.Author.Needs.{needs}

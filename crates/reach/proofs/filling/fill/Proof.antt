@@ -1,5 +1,5 @@
 -- `fill` meets its contract: the columns of one entry more at each turn, whatever entry is remembered. Assumes nothing.
-use Prim.Native.Nat.{ℕ, _*_, _/_, _-_, _≤_}
+use Prim.Native.Nat.{ℕ, _-_, _≤_}
 use Rattle.reach.proofs.Paired.{length-paired}
 use Rattle.reach.proofs.Shared.{filling-none, filling-placed}
 use Rattle.reach.specs.Columns.{Filling}

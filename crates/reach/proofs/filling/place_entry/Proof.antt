@@ -1,12 +1,12 @@
 -- `place_entry` meets its contract: the place of an entry that is like this one, or columns of its own. Assumes nothing.
-use Prim.Native.Nat.{_+_, _*_, _/_, _<_}
+use Prim.Native.Nat.{_+_, _*_, _/_}
 use Rattle.reach.proofs.Paired.{length-paired}
 use Rattle.reach.proofs.Shared.{filling-like, filling-own}
 use Rattle.reach.specs.Marks.{paired}
 use borrow.Author.Needs.{needs}
 use denote.Ref.{now}
 use lib.ListN.{length, length-set}
-use mathlib.Core.Path.{sym, _∙_}
+use mathlib.Core.Path.{_∙_}
 use native.Mathlib.Omega.{arith}
 use Rattle.reach.proofs.filling.place_entry.Statement.{statement}
 use Rattle.reach.proofs.filling.place_entry.Tie as tie
@@ -57,7 +57,7 @@ slice-write-steps-2 : tie.Need-slice-write-steps-2
 slice-write-steps-2 c = search needs
 
 make-requires : tie.Need-make-requires
-make-requires c κs = let S = c .before .before .before .before .before .before in (S .pre .0, (S .pre .1 .1 .0 .1, omega (arith, length-set (now (S .args .steps)) (S .args .pair .entry) (length (now (S .args .words)) / 2 + 48 * S .args .pair .entry), length-paired (now (S .args .words)), S .pre .1 .1 .0, S .pre .1 .1 .1 .long)))
+make-requires c κs = let S = c .before .before .before .before .before .before in (S .pre .0, (omega (arith, S .pre .1 .1 .0), omega (arith, length-set (now (S .args .steps)) (S .args .pair .entry) (length (now (S .args .words)) / 2 + 48 * S .args .pair .entry), length-paired (now (S .args .words)), S .pre .1 .1 .0, S .pre .1 .1 .1 .long)))
 
 same-length-2 : tie.Need-same-length-2
 same-length-2 c = let S = c .before .before .before .before .before .before .before .before .before in c .before .before .make .ensures .0 .same ∙ length-set (now (S .args .steps)) (S .args .pair .entry) _

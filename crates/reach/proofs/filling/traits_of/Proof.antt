@@ -1,6 +1,5 @@
 -- `traits_of` meets its contract: a bit more for each edge passed, and the node that it tests. Assumes nothing.
-use Prim.Native.Nat.{ℕ, _+_, _-_, _^_, _≤_, _<_}
-use Rattle.aldlf.proofs.Bools.{bool-cases}
+use Prim.Native.Nat.{ℕ, _+_, _-_, _^_, _≤_}
 use Rattle.aldlf.specs.Constants.{stateLimit}
 use Rattle.reach.proofs.Made.{group-lt}
 use Rattle.reach.proofs.Shared.{gathered}

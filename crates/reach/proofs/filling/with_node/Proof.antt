@@ -1,10 +1,10 @@
 -- `with_node` meets its contract: the node is put into its word. Assumes nothing.
-use Prim.Native.Nat.{ℕ, _^_}
+use Prim.Native.Nat.{ℕ}
 use Rattle.reach.proofs.Tests.{with-low, with-high}
 use Rattle.reach.specs.Tests.{With}
 use borrow.Author.Needs.{needs}
 use lib.Bits.{bitOr}
-use mathlib.Core.Path.{sym, subst, ap}
+use mathlib.Core.Path.{sym, subst}
 use Rattle.reach.proofs.filling.with_node.Statement.{statement}
 use Rattle.reach.proofs.filling.with_node.Tie as tie
 use Rattle.reach.proofs.filling.with_node.Reads as reads

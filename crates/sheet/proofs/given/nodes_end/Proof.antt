@@ -1,21 +1,24 @@
 -- `nodes_end` meets its contract: whether the places passed are all zeros. Assumes nothing.
-use Rattle.sheet.proofs.Each.{fromOn, from-start, from-next, from-end}
-use Rattle.sheet.specs.Given.{isNoLine, nodesEnd}
-use Rattle.sheet.specs.Questions.{each}
+use Prim.Native.Nat.{ℕ, _-_, _≤_, _<_}
 use Rattle.aldlf.specs.Constants.{nodeLimit}
 use Rattle.aldlf.specs.Sheet.{noLine}
 use Rattle.aldlf.specs.declared.Table.{Table}
 use Rattle.packing.specs.Packed.{Packed}
-use Prim.Native.Nat.{ℕ, _-_, _≤_, _<_}
-use mathlib.Core.Path.{_≡_, refl, sym, ap, ap₂, _∙_}
+use Rattle.sheet.proofs.Each.{fromOn, from-start, from-next, from-end}
+use Rattle.sheet.specs.Given.{isNoLine, nodesEnd}
+use Rattle.sheet.specs.Questions.{each}
+use borrow.Author.Needs.{needs}
+use lib.ListN.{getD}
 use mathlib.Core.Bool.{Bool, true, _&&_}
 use mathlib.Core.Logic.{⊎-elim}
+use mathlib.Core.Path.{_≡_, refl, sym, ap, ap₂, _∙_}
 use native.Mathlib.Nat.{eq-or-lt-of-le}
 use native.Mathlib.Omega.{arith}
-use lib.ListN.{getD}
-use borrow.Author.Needs.{needs}
 use Rattle.sheet.proofs.given.nodes_end.Statement.{statement}
 use Rattle.sheet.proofs.given.nodes_end.Tie as tie
+use Rattle.sheet.proofs.given.nodes_end.Reads as reads
+use Rattle.sheet.proofs.given.nodes_end.Lts as lts
+use Rattle.sheet.proofs.given.has_no_line.Reads as has-no-line-reads
 
 abbrev Inv-loop : tie.InvT-loop
 Inv-loop numbers n all₀ i₀ all i = (n ≤ i) × (nodeLimit < i → all ≡ true) × ((t : Table) → Packed t numbers → all ≡ each (fromOn (λ k. isNoLine (getD (t .nodes) k noLine)) n) i)
@@ -26,14 +29,17 @@ abbrev μ-loop : tie.MeasureT-loop
 loop-holds : tie.Need-loop-holds Inv-loop μ-loop
 loop-holds c = (omega arith, λ _. refl, λ t P. sym (from-start (λ k. isNoLine (getD (t .nodes) k noLine)) (c .before .args .n)))
 
-cast-loop : tie.Need-cast-loop Inv-loop μ-loop
-cast-loop c = search needs
+add-has-no-line : tie.Need-add-has-no-line Inv-loop μ-loop
+add-has-no-line c = search needs
 
-line-at-requires : tie.Need-line-at-requires Inv-loop μ-loop
-line-at-requires c κs = search needs
+mul-has-no-line : tie.Need-mul-has-no-line Inv-loop μ-loop
+mul-has-no-line c = search needs
 
-is-no-line-requires : tie.Need-is-no-line-requires Inv-loop μ-loop
-is-no-line-requires c κs = search needs
+shared-slice-read-has-no-line : tie.Need-shared-slice-read-has-no-line Inv-loop μ-loop
+shared-slice-read-has-no-line c = search needs
+
+has-no-line-requires : tie.Need-has-no-line-requires Inv-loop μ-loop
+has-no-line-requires c κs = search needs
 
 add-i : tie.Need-add-i Inv-loop μ-loop
 add-i c = search needs
@@ -47,8 +53,7 @@ loop-again c = (
   λ h. absurd (omega arith),
   λ t P.
       let l = c .before .before .before .loop in
-      let e = c .before .line-at .ensures ∙ P .line-is (l .i) (c .before .before .loop-test .taken) in
-      ap₂ _&&_ (l .inv .2 t P) (c .is-no-line .ensures ∙ ap isNoLine e) ∙ from-next (λ k. isNoLine (getD (t .nodes) k noLine)) (c .before .before .before .before .before .args .n) (l .i) (l .inv .0),
+      ap₂ _&&_ (l .inv .2 t P) (c .has-no-line .ensures ∙ ap isNoLine (P .line-is (l .i) (c .before .before .loop-test .taken))) ∙ from-next (λ k. isNoLine (getD (t .nodes) k noLine)) (c .before .before .before .before .before .args .n) (l .i) (l .inv .0),
 )
 
 returns : tie.Need-returns Inv-loop μ-loop
@@ -66,9 +71,10 @@ nodes-end-spec =
     Inv-loop
     μ-loop
     loop-holds
-    cast-loop
-    line-at-requires
-    is-no-line-requires
+    add-has-no-line
+    mul-has-no-line
+    shared-slice-read-has-no-line
+    has-no-line-requires
     add-i
     loop-less
     loop-again
