@@ -4,7 +4,7 @@ use mathlib.Core.Path.{refl}
 use Rattle.aldlf.specs.Sheet.{sheetOf}
 use Rattle.aldlf.specs.Stands.{standsOf, standsOnDir, ruleSheet}
 use Rattle.aldlf.specs.Verdict.{judge, rowOf}
-use Rattle.aldlf.specs.Outcomes.{partWords, wholeNumber, wholeOutcome, partNumber, partOutcome}
+use Rattle.aldlf.specs.Outcomes.{partVerdicts, wholeNumber, wholeOutcome, partNumber, partOutcome}
 use Rattle.aldlf.specs.Walks.{walkIn, walkOf, walkNumber, walkOutcome}
 use Rattle.aldlf.specs.Jobs.{AllRight, jobs}
 use Rattle.text.specs.Text.{pieces, lines, number, numberIn, allDigits, valueOf}
@@ -14,7 +14,7 @@ use Rattle.sheet.specs.Given.{nodeFits, edgeFits, headFits, edgesFit, usedFits,
 use Rattle.worked.specs.Sheets.{AllRead, texts}
 
 pub starred : AllRight wellFormed jobs
-unfolding sheetOf standsOf standsOnDir ruleSheet judge rowOf partWords wholeNumber wholeOutcome partNumber partOutcome walkIn walkOf walkNumber walkOutcome wellFormed usedFits nodesFit nodeFits automataFit headFits edgesFit edgeFits nodesEnd automataEnd edgesEnd whole each someEdge plainFrom
+unfolding sheetOf standsOf standsOnDir ruleSheet judge rowOf partVerdicts wholeNumber wholeOutcome partNumber partOutcome walkIn walkOf walkNumber walkOutcome wellFormed usedFits nodesFit nodeFits automataFit headFits edgesFit edgeFits nodesEnd automataEnd edgesEnd whole each someEdge plainFrom
 starred =
     ((refl, refl), ((refl, refl), ((refl, refl), ((refl, refl), ((refl, refl), ((refl, refl), ((refl, refl), ((refl, refl), ((refl, refl), ((refl, refl), ((refl, refl), (refl, (refl, (refl, (refl, ((refl, refl, refl), ((refl, refl, refl), ((refl, refl, refl), ((refl, refl, refl), tt)))))))))))))))))))
 
