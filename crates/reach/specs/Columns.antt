@@ -23,7 +23,7 @@ columnOf p = 16 * groupOf (dirIn p) + toOf p
 abbrev pub Told : List ℕ → (looks n : ℕ) → Type 0
 Told E looks n = (e : ℕ) → e < n → bit looks (groupOf (dirIn (at E e))) ≡ true
 
--- One of the first k edges goes from s to t, in a direction of group g, and its node holds by the entry's word.
+-- One of the first k edges goes from s to t, in a direction of group g, and its node holds by the entry's number.
 pub record Step (E : List ℕ) (word k g s t : ℕ) : Type 0 where
   pub edge : ℕ
   pub early : edge < k
@@ -38,7 +38,7 @@ pub record Pulled (C : List ℕ) (p mask n r : ℕ) : Type 0 where
   pub all : (s t : ℕ) → t < n → bit mask t ≡ true → bit (at C (p + t)) s ≡ true → bit r s ≡ true
   pub sound : (s : ℕ) → bit r s ≡ true → (t : ℕ) × (t < n) × (bit mask t ≡ true) × (bit (at C (p + t)) s ≡ true)
 
--- The 48 columns from place p on are just the steps of the first k edges at an entry with this word.
+-- The 48 columns from place p on are just the steps of the first k edges at an entry with this number.
 pub record Held (E : List ℕ) (word k : ℕ) (C : List ℕ) (p : ℕ) : Type 0 where
   pub have : (e : ℕ) → e < k → bit word (testOf (at E e)) ≡ true → bit (at C (p + columnOf (at E e))) (fromOf (at E e)) ≡ true
   pub only : (g t s : ℕ) → g < 3 → t < stateLimit → s < stateLimit → bit (at C (p + (16 * g + t))) s ≡ true → Step E word k g s t
@@ -65,7 +65,7 @@ pub record Joined (C : List ℕ) (p k : ℕ) (C2 : List ℕ) : Type 0 where
   pub sound : (P : ℕ → Bool) → Back C p P → Back C2 p P
   pub through : (s m u : ℕ) → s < stateLimit → m < k → u < stateLimit → bit (at C2 (p + m)) s ≡ true → bit (at C2 (p + u)) m ≡ true → bit (at C2 (p + u)) s ≡ true
 
--- The columns from place p on are the steps of these edges at an entry with this word; those that stay have all that is reached by staying.
+-- The columns from place p on are the steps of these edges at an entry with this number; those that stay have all that is reached by staying.
 pub record Columns (E : List ℕ) (word : ℕ) (C : List ℕ) (p : ℕ) : Type 0 where
   pub have : (e : ℕ) → e < length E → bit word (testOf (at E e)) ≡ true → bit (at C (p + columnOf (at E e))) (fromOf (at E e)) ≡ true
   pub only : (g t s : ℕ) → 0 < g → g < 3 → t < stateLimit → s < stateLimit → bit (at C (p + (16 * g + t))) s ≡ true → Step E word (length E) g s t

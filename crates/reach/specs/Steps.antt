@@ -25,7 +25,7 @@ pickBool false a b = b
 abbrev pub sideOf : (d here ahead behind : ℕ) → ℕ
 sideOf d here ahead behind = pick (eqb d 0) here (pick (eqb d 1) ahead behind)
 
--- Edge p adds no state to the mask of an entry with this word.
+-- Edge p adds no state to the mask of an entry with this number.
 abbrev pub Settled : (p word ahead behind mask : ℕ) → Type 0
 Settled p word ahead behind mask = bit word (testOf p) ≡ true → bit (sideOf (dirIn p) mask ahead behind) (toOf p) ≡ true → bit mask (fromOf p) ≡ true
 

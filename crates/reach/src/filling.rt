@@ -2,6 +2,7 @@
 use super::steps::group_of;
 use super::steps::make;
 use super::steps::one_bit;
+use aldlf::Node;
 ghost use mathlib.Core.Path.{_≡_};
 ghost use Prim.Native.Nat.{ℕ, _+_, _*_, _^_, _≤_, _<_};
 ghost use mathlib.Core.Bool.{true};
@@ -127,17 +128,18 @@ fn traits_of(edges: &[u32]) -> Traits
     while e < edges.len() {
         let p = edges[e];
         looks = looks | one_bit(group_of((p / 256 % 256) as u8));
-        tested = with_node(tested, (p / 65536 % 256) as u8);
+        tested = with_node(tested, Node((p / 65536 % 256) as u8));
         e += 1;
     }
     Traits { looks, tested }
 }
 
-// The nodes, and node k.
-fn with_node(set: NodeSet, k: u8) -> NodeSet
-    requires { ⌜ k < nodeLimit ⌝ }
-    ensures { λ r. ⌜ With set k r ⌝ }
+// The nodes, and one more.
+fn with_node(set: NodeSet, node: Node) -> NodeSet
+    requires { ⌜ node .0 < nodeLimit ⌝ }
+    ensures { λ r. ⌜ With set (node .0) r ⌝ }
 {
+    let k = node.0;
     if k < aldlf::WORD_BITS {
         return NodeSet {
             low: set.low | one_node(k),

@@ -20,7 +20,7 @@ goalAt words q goal c = bit (q .accepting) (c % q .states) && facing (goal .want
 abbrev pub GoalAt : List ℕ → Automaton → Goal → ℕ → Type 0
 GoalAt words q goal c = goalAt words q goal c ≡ true
 
--- The states that are goals at an entry with this word: the accepting ones where the goal's node is as wanted, else none.
+-- The states that are goals at an entry with this number: the accepting ones where the goal's node is as wanted, else none.
 abbrev pub goalsIn : (word accepting : ℕ) → Goal → ℕ
 goalsIn word accepting goal = pickNat (facing (goal .want) (bit word (goal .node .0))) accepting 0
 

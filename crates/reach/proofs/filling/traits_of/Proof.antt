@@ -45,8 +45,8 @@ group-of-requires c κs = search needs
 one-bit-requires : tie.Need-one-bit-requires Inv-loop μ-loop
 one-bit-requires c κs = search needs
 
-cast-with-node : tie.Need-cast-with-node Inv-loop μ-loop
-cast-with-node c = search needs
+cast-t13 : tie.Need-cast-t13 Inv-loop μ-loop
+cast-t13 c = search needs
 
 with-node-requires : tie.Need-with-node-requires Inv-loop μ-loop
 with-node-requires c κs = let S = c .before .before .before .before .before .before in S .pre .each (c .before .before .before .before .loop .e) (c .before .before .before .loop-test .taken) .test-fits
@@ -89,7 +89,7 @@ traits-of-spec =
     cast-group-of
     group-of-requires
     one-bit-requires
-    cast-with-node
+    cast-t13
     with-node-requires
     add-e
     loop-less

@@ -18,7 +18,7 @@ returns : tie.Need-returns
 returns c =
     let S = c .before .before .before in
     let set = S .args .set in
-    subst (λ (z : ℕ). With set (S .args .k) (record { low = bitOr (set .low) z; high = set .high })) (sym (c .before .one-node .ensures)) (with-low set (S .args .k) (c .before .before .if1 .taken))
+    subst (λ (z : ℕ). With set (S .args .node .0) (record { low = bitOr (set .low) z; high = set .high })) (sym (c .before .one-node .ensures)) (with-low set (S .args .node .0) (c .before .before .if1 .taken))
 
 one-node-requires-2 : tie.Need-one-node-requires-2
 one-node-requires-2 c κs = search needs
@@ -27,7 +27,7 @@ returns-2 : tie.Need-returns-2
 returns-2 c =
     let S = c .before .before .before in
     let set = S .args .set in
-    subst (λ (z : ℕ). With set (S .args .k) (record { low = set .low; high = bitOr (set .high) z })) (sym (c .before .one-node2 .ensures)) (with-high set (S .args .k) (c .before .before .if1 .left) (S .pre))
+    subst (λ (z : ℕ). With set (S .args .node .0) (record { low = set .low; high = bitOr (set .high) z })) (sym (c .before .one-node2 .ensures)) (with-high set (S .args .node .0) (c .before .before .if1 .left) (S .pre))
 
 pub with-node-spec : {M : Type 1} → statement M
 with-node-spec = tie.close (tie.spec one-node-requires returns one-node-requires-2 returns-2)
