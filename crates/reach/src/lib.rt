@@ -47,7 +47,8 @@ pub fn mark(goal: Goal, words: &[u64], steps: &[u16], masks: &mut [u16])
     rise(goal.exits, goal.looks, steps, masks);
 }
 
-// The verdict on a node at an entry, from verdict words, two for each entry. Internal: verdicts are read here and written by `put_verdict` alone.
+// The verdict on a node at an entry, from verdict words, two for each entry. Internal: single verdicts are read here and written by `put_verdict`
+// alone; `filling` compares whole words.
 pub fn verdict(words: &[u64], entry: usize, node: Node) -> bool
     requires { ⌜ (node .0 < nodeLimit) × (2 * entry + 1 < length (now words)) ⌝ }
     ensures { λ r. ⌜ r ≡ verdictAt (now (words .entry)) entry (node .0) ⌝ }

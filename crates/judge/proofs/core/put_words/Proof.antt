@@ -44,7 +44,7 @@ loop-again c = let S = c .before .before .before in
     let words = now (S .args .words) in (
       omega (arith, c .before .loop-test .taken),
       length-set (l .verdicts) (l .i) _ ∙ l .inv .1,
-      ap (λ (v : List ℕ). set v (l .i) (getD words (l .i) 0)) (l .inv .2) ∙ put-next (now (S .args .verdicts)) words (l .i) (omega (arith, S .pre, c .before .loop-test .taken)) (c .before .loop-test .taken),
+      ap (λ (v : List ℕ). set v (l .i) (getD words (l .i) 0)) (l .inv .2) ∙ put-next (now (S .args .verdicts)) words (l .i) (omega (arith, S .pre, c .before .loop-test .taken)) (omega (arith, c .before .loop-test .taken)),
     )
 
 same-length : tie.Need-same-length Inv-loop μ-loop
