@@ -4,7 +4,8 @@ use mathlib.Core.List.{List}
 use Rattle.aldlf.specs.Sheet.{sheetOf}
 use Rattle.aldlf.specs.Walks.{Shown, walkOutcome}
 use Rattle.sheet.specs.Given.{wellFormed}
-use Rattle.report.specs.Page.{Printed, pageOutcome}
+use Rattle.appending.specs.Placed.{Printed}
+use Rattle.report.specs.Page.{pageOutcome}
 use Rattle.crossing.specs.Numbers.{tableOf}
 use Rattle.exports.specs.Answers.{answerCode, Outcome, outcome}
 

@@ -25,10 +25,11 @@ use Rattle.walk.proofs.Questions.{outcome-0, outcome-most}
 use Rattle.joblog.specs.Log.{LogRead, entries, refused, readLog}
 use Rattle.joblog.proofs.Answers.{Sound, sound-log}
 use Rattle.lines.specs.Lines.{refusalLine, verdictLines, walkLine, noWalkLine}
-use Rattle.report.specs.Page.{lentWords, walkLimit, pageLimit, ruleOf, refusedWalk, shownLine, walkPage, judgedPage, tablePage, logPage, sheetPage, pageOf, Printed, printedOf, placed, pageOutcome}
+use Rattle.report.specs.Page.{lentWords, walkLimit, pageLimit, ruleOf, refusedWalk, shownLine, walkPage, judgedPage, tablePage, logPage, sheetPage, pageOf, printedOf, pageOutcome}
 use Rattle.report.specs.declared.PageAnswer.{PageAnswer}
 use Rattle.lines.proofs.Lengths.{refusal-length, verdicts-length, walk-length}
-use Rattle.report.proofs.Placed.{placed-fits, placed-count}
+use Rattle.appending.specs.Placed.{Printed, placed}
+use Rattle.appending.proofs.Placed.{placed-fits, placed-count}
 use Rattle.report.proofs.Numbers.{first-le, Small, sheet-small, edges-small}
 
 refused-walk-length : (q : ℕ) → q ≤ 40 → length (refusedWalk q) ≤ 17
@@ -110,7 +111,7 @@ page-fits rules steps = sheet-page-length (readSheet rules) steps (sheet-small r
 pub page-whole : (rules steps lent : List ℕ) → pageLimit ≤ length lent
     → pageOutcome rules steps lent ≡ record { number = 0; count = length (pageOf rules steps); buffer = pageOf rules steps ++ drop (length (pageOf rules steps)) lent }
 unfolding pageOutcome
-page-whole rules steps lent h = placed-fits (pageOf rules steps) lent (omega (arith, page-fits rules steps))
+page-whole rules steps lent h = placed-fits 44 (pageOf rules steps) lent (omega (arith, page-fits rules steps))
 
 -- and is never refused
 pub page-never-refused : (rules steps lent : List ℕ) → pageLimit ≤ length lent → pageOutcome rules steps lent .number ≡ 44 → ⊥
@@ -122,6 +123,6 @@ page-never-refused rules steps lent h e =
 pub page-bytes : (rules steps lent after : List ℕ) (r : PageAnswer) → printedOf r after ≡ pageOutcome rules steps lent → (r .bytes ≤ length lent) × (r .bytes ≤ pageLimit)
 unfolding pageOutcome
 page-bytes rules steps lent after r e =
-    let c : r .bytes ≡ placed (pageOf rules steps) lent .count = ap (λ (p : Printed). p .count) e in
-    let (room, all) = placed-count (pageOf rules steps) lent in
+    let c : r .bytes ≡ placed 44 (pageOf rules steps) lent .count = ap (λ (p : Printed). p .count) e in
+    let (room, all) = placed-count 44 (pageOf rules steps) lent in
     (omega arith, omega (arith, page-fits rules steps))

@@ -1,5 +1,4 @@
 pub mod Pages
-pub mod Placed
 pub mod Answers
 pub mod Worked
 pub mod Numbers

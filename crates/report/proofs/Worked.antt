@@ -10,7 +10,8 @@ use Rattle.sheet.specs.Given.{nodeFits, edgeFits, headFits, edgesFit, usedFits,
 use Rattle.joblog.specs.Log as log
 use Rattle.appending.specs.Appending.{digitsOf, decimal}
 use Rattle.lines.specs.Lines.{refusalLine, entryLine, entriesBelow, ruleLine, verdictLines, edgesBelow, walkLine, noWalkLine}
-use Rattle.report.specs.Page.{refusedWalk, shownLine, walkPage, judgedPage, tablePage, sheetPage, pageOf, placed, pageOutcome}
+use Rattle.report.specs.Page.{refusedWalk, shownLine, walkPage, judgedPage, tablePage, sheetPage, pageOf, pageOutcome}
+use Rattle.appending.specs.Placed.{placed}
 use Rattle.report.specs.Examples.{AllPrint, examples, AllAnswer, lendings}
 
 pub all-print : AllPrint examples

@@ -3,7 +3,8 @@ use Prim.Native.Nat.{ℕ}
 use mathlib.Core.List.{List, [], _∷_, _++_}
 use mathlib.Core.Path.{_≡_}
 use lib.ListN.{replicate}
-use Rattle.report.specs.Page.{pageOf, Printed, pageOutcome}
+use Rattle.report.specs.Page.{pageOf, pageOutcome}
+use Rattle.appending.specs.Placed.{Printed}
 
 -- a sheet, a log and its page
 pub record Example : Type 0 where

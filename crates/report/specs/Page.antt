@@ -2,8 +2,8 @@
 use Prim.Native.Nat.{ℕ, zero, suc, _*_, _-_}
 use mathlib.Core.Bool.{cond, _||_}
 use mathlib.Core.List.{List, _++_}
-use lib.ListN.{length, take, drop, replicate}
-use lib.Dec.{eqb, leb}
+use lib.ListN.{length, take, replicate}
+use lib.Dec.{eqb}
 use Rattle.aldlf.specs.Constants.{entryLimit}
 use Rattle.aldlf.specs.Sheet.{sheetOf}
 use Rattle.aldlf.specs.Outcomes.{Whole, wholeOutcome}
@@ -13,6 +13,7 @@ use Rattle.joblog.specs.Log.{LogRead, entries, refused, readLog}
 use Rattle.sheet.specs.declared.SheetAnswer.{SheetAnswer}
 use Rattle.sheet.specs.Questions.{readSheet}
 use Rattle.sheet.specs.Given.{wellFormed}
+use Rattle.appending.specs.Placed.{Printed, placed}
 use Rattle.report.specs.declared.PageAnswer.{PageAnswer}
 use Rattle.lines.specs.Lines.{refusalLine, verdictLines, walkLine, noWalkLine}
 
@@ -78,23 +79,10 @@ sheetPage a steps =
 unfoldable pub pageOf : (rules steps : List ℕ) → List ℕ
 pageOf rules steps = sheetPage (readSheet rules) steps
 
--- what printing a page answers: its number (0: written), how many bytes were written, and the buffer as the call ends
-pub record Printed : Type 0 where
-  pub number : ℕ
-  pub count : ℕ
-  pub buffer : List ℕ
-
--- an answer's number and count of bytes, beside the buffer
+-- what printing a page answers
 abbrev pub printedOf : PageAnswer → List ℕ → Printed
 printedOf r buffer = record { number = r .number; count = r .bytes; buffer = buffer }
 
--- a page that fits stands in the first places, the rest as lent; one that does not is refused, and the buffer is as lent
-unfoldable pub placed : (page lent : List ℕ) → Printed
-placed page lent =
-    cond (leb (length page) (length lent))
-    (record { number = 0; count = length page; buffer = page ++ drop (length page) lent })
-    (record { number = 44; count = 0; buffer = lent })
-
--- printing the page of a sheet and a log
+-- printing the page of a sheet and a log: one that does not fit is refused by 44
 unfoldable pub pageOutcome : (rules steps lent : List ℕ) → Printed
-pageOutcome rules steps lent = placed (pageOf rules steps) lent
+pageOutcome rules steps lent = placed 44 (pageOf rules steps) lent

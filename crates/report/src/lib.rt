@@ -21,8 +21,9 @@ ghost use Rattle.aldlf.specs.Constants.{entryLimit};
 ghost use Rattle.aldlf.specs.declared.Table.{Table};
 ghost use Rattle.packing.specs.Packed.{Packed};
 ghost use Rattle.joblog.specs.Log.{readLog};
-ghost use Rattle.report.specs.Page.{ruleOf, refusedWalk, walkPage, tablePage, logPage, pageOf, printedOf, placed, pageOutcome};
+ghost use Rattle.report.specs.Page.{ruleOf, refusedWalk, walkPage, tablePage, logPage, pageOf, printedOf, pageOutcome};
 ghost use Rattle.appending.specs.Appending.{Stored, Appends};
+ghost use Rattle.appending.specs.Placed.{placed};
 
 // No page is longer, so that a buffer of so many bytes takes every page.
 pub const BYTES: usize = 40000;
@@ -80,7 +81,7 @@ fn long_page(rules: &[u8], steps: &[u8], out: &mut [u8]) -> PageAnswer
 
 // A page copied to `out`, or refused.
 fn hand_over(page: &[u8], out: &mut [u8]) -> PageAnswer
-    ensures { λ r. ⌜ printedOf r (now (out .exit)) ≡ placed (now (page .entry)) (now (out .entry)) ⌝ }
+    ensures { λ r. ⌜ printedOf r (now (out .exit)) ≡ placed 44 (now (page .entry)) (now (out .entry)) ⌝ }
 {
     let n = page.len();
     if n <= out.len() {

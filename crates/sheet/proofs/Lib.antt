@@ -28,3 +28,4 @@ pub mod Facts
 pub mod Sound
 pub mod Padded
 pub mod Worked
+pub mod InUse

@@ -4,7 +4,7 @@ use denote.Ref.{now}
 use native.Mathlib.Omega.{arith}
 use Rattle.report.specs.Page.{pageOf, pageOutcome}
 use Rattle.report.proofs.Fits.{page-fits}
-use Rattle.report.proofs.Placed.{placed-stored}
+use Rattle.appending.proofs.Placed.{placed-stored}
 use Rattle.report.proofs.page.Statement.{statement}
 use Rattle.report.proofs.page.Tie as tie
 
@@ -21,7 +21,7 @@ returns c =
     let p = c .before .before .put-page in
     let rules = now (a .rules) in
     let steps = now (a .steps) in
-    placed-stored (pageOf rules steps) (now (a .out)) (p .last .0) (p .result) (omega (arith, page-fits rules steps, c .before .before .before .before .if1 .taken)) (p .ensures)
+    placed-stored 44 (pageOf rules steps) (now (a .out)) (p .last .0) (p .result) (omega (arith, page-fits rules steps, c .before .before .before .before .if1 .taken)) (p .ensures)
 
 short-page-requires : tie.Need-short-page-requires
 short-page-requires c κs = search needs

@@ -7,7 +7,7 @@ use native.Mathlib.Omega.{arith}
 use lib.ListN.{replicate, length-replicate}
 use lib.Seq.{length-take-le}
 use Rattle.report.specs.Page.{pageOf, pageOutcome}
-use Rattle.report.proofs.Placed.{placed-by}
+use Rattle.appending.proofs.Placed.{placed-by}
 use Rattle.report.proofs.short_page.Statement.{statement}
 use Rattle.report.proofs.short_page.Tie as tie
 
@@ -37,7 +37,7 @@ returns c =
     let s = c .before .before .before .before .before .before .before .before .before .before .before in
     let p = c .before .before .before .before .before .before .put-page in
     c .before .before .hand-over .ensures
-    ∙ placed-by (pageOf (now (s .args .rules)) (now (s .args .steps))) (now (s .args .out)) (replicate 1024 0) (p .last .0) (p .result) (omega (arith, s .pre, length-replicate {A = ℕ} 1024 0)) (p .ensures)
+    ∙ placed-by 44 (pageOf (now (s .args .rules)) (now (s .args .steps))) (now (s .args .out)) (replicate 1024 0) (p .last .0) (p .result) (omega (arith, s .pre, length-replicate {A = ℕ} 1024 0)) (p .ensures)
 
 pub short-page-spec : {M : Type 1} → statement M
 short-page-spec =

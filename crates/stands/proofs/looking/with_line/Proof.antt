@@ -12,7 +12,8 @@ use Rattle.aldlf.proofs.Letters.{either-letter, neither-letter}
 use Rattle.packing.specs.Numbers.{lentUsed}
 use Rattle.stands.specs.Marking.{LineIn}
 use Rattle.sheet.specs.Facts.{nodeAt, Lent}
-use Rattle.stands.proofs.LentLaws.{node-few, line-lent, line-named, automaton-used, automaton-few}
+use Rattle.sheet.proofs.InUse.{node-few, line-lent, automaton-used, automaton-few}
+use Rattle.stands.proofs.LentLaws.{line-named}
 use Rattle.stands.proofs.MarkLaws.{line-read}
 use Rattle.stands.proofs.LookLaws.{with-modal, with-none, edges-ways, asked-next}
 use Rattle.stands.proofs.looking.with_line.Statement.{statement}

@@ -12,7 +12,7 @@ use Rattle.aldlf.specs.declared.Table.{Table}
 use Rattle.packing.specs.Numbers.{lentAutomaton}
 use Rattle.sheet.specs.Facts.{automatonAt, Lent}
 use Rattle.stands.specs.Marking.{TestsIn}
-use Rattle.stands.proofs.LentLaws.{automaton-used, automaton-few, automaton-lent}
+use Rattle.sheet.proofs.InUse.{automaton-used, automaton-few, automaton-lent}
 use Rattle.stands.proofs.MarkLaws.{automaton-idle, automaton-marked, tests-in, tests-inside}
 use Rattle.stands.proofs.marking.mark_automaton.Statement.{statement}
 use Rattle.stands.proofs.marking.mark_automaton.Tie as tie

@@ -15,7 +15,8 @@ use Rattle.aldlf.proofs.Letters.{either-letter, neither-letter}
 use Rattle.packing.specs.Numbers.{lentUsed}
 use Rattle.sheet.specs.Facts.{nodeAt, Lent}
 use Rattle.stands.specs.Marking.{Marked, LineIn}
-use Rattle.stands.proofs.LentLaws.{node-few, line-lent, line-named}
+use Rattle.sheet.proofs.InUse.{node-few, line-lent}
+use Rattle.stands.proofs.LentLaws.{line-named}
 use Rattle.stands.proofs.MarkLaws.{line-marked, operand-taken, marks-not, marks-both, modal-marked, marks-none, line-read}
 use Rattle.stands.proofs.marking.mark_line.Statement.{statement}
 use Rattle.stands.proofs.marking.mark_line.Tie as tie

@@ -6,7 +6,7 @@ use borrow.Author.Needs.{needs}
 use borrow.Author.Tests.{not-true, not-false}
 use Rattle.aldlf.specs.Constants.{nodeLimit}
 use Rattle.aldlf.specs.Sheet.{sheetOf}
-use Rattle.stands.proofs.LentLaws.{node-few}
+use Rattle.sheet.proofs.InUse.{node-few}
 use Rattle.stands.proofs.MarkLaws.{turn-skips, turn-marks}
 use Rattle.stands.proofs.marking.mark_turn.Statement.{statement}
 use Rattle.stands.proofs.marking.mark_turn.Tie as tie
