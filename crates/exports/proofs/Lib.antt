@@ -8,3 +8,4 @@ pub mod Pages
 pub mod Apart
 pub mod Runs
 pub mod Profiles
+pub mod RuleTexts

@@ -1,9 +1,10 @@
 // One number for an answer.
 ghost use mathlib.Core.Path.{_≡_};
-ghost use Prim.Native.Nat.{_<_};
+ghost use Prim.Native.Nat.{_≤_, _<_};
 ghost use Rattle.aldlf.specs.Outcomes.{one};
 ghost use Rattle.exports.specs.Answers.{answerCode};
 ghost use Rattle.exports.specs.Lists.{listCode};
+ghost use Rattle.exports.specs.RuleTexts.{longest, lengthCode};
 
 // The number of the question that got a no (0: accepted), its line, the count and what is given besides, side by side.
 pub(crate) fn code(number: u8, line: usize, count: usize, extra: u16) -> u64
@@ -22,6 +23,14 @@ pub(crate) fn list_code(number: u8, log: usize) -> u64
     ensures { λ r. ⌜ r ≡ listCode number log ⌝ }
 {
     65536 * (number as u64) + 4294967296 * (log as u64)
+}
+
+// An answer with a length: its lowest 16 bits stand where a count does, the others take the places of two parts.
+pub(crate) fn length_code(number: u8, length: usize) -> u64
+    requires { ⌜ length ≤ longest ⌝ }
+    ensures { λ r. ⌜ r ≡ lengthCode number length ⌝ }
+{
+    ((length % 65536) as u64) + 65536 * (number as u64) + 4294967296 * ((length / 65536) as u64)
 }
 
 // A yes as a count.

@@ -1,0 +1,9 @@
+pub mod Texts
+pub mod PieceLaws
+pub mod LineTexts
+pub mod Bracketed
+pub mod Measures
+pub mod Answers
+pub mod Clean
+pub mod Request
+pub mod Worked

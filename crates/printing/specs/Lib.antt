@@ -1,0 +1,4 @@
+pub mod Print
+pub mod Right
+pub mod Pieces
+pub mod Measure
