@@ -2,9 +2,10 @@
  *
  * Every function answers one number of four parts, 16 bits each, from the low bits up: a count or length; the number of the question that
  * got a no (0: accepted); the line that the question is about (from 1; 0 for questions not about a line); and what a function gives besides
- * (each says what; else 0). Where a list of logs is judged, the upper 32 bits are the log that the question is about.
+ * (each says what; else 0). Where a list of logs is judged, the upper 32 bits are the log that the question is about; where a rule is printed,
+ * they are the upper bits of the text's length.
  * A refusal alters nothing that was lent. The questions about texts and profiles and their numbers stand in docs/SHEETS.md and docs/LOGS.md,
- * those about judging and walks in document 01; three are the boundary's own:
+ * those about judging and walks in document 01, the one about printing a rule (55) in document 02; three are the boundary's own:
  *   35  a table or row to be written has its fixed length. Asked first.
  *   43  a way is ROZSVELEN_AHEAD or ROZSVELEN_BACK. Asked after 35.
  *   44  a page fits in the lent bytes.
@@ -12,7 +13,7 @@
  *
  * A slice is a pointer and the number of its elements. The pointer is aligned as its type asks, and may be NULL or anything else where the
  * number is 0: then it is not followed. What is lent for writing overlaps nothing else that is lent to the same call; what is only read may
- * overlap. No function keeps a pointer, keeps anything between calls, allocates, or calls anything but memcpy and memset: threads may call at
+ * overlap. No function keeps a pointer, keeps anything between calls, allocates, or calls anything but memcpy, memmove and memset: threads may call at
  * the same time where none writes what another is lent.
  * Stack: a call takes no more than is said at it, in kilobytes of 1024 bytes (measured, on x86-64, by tests/boundary.c). */
 #ifndef ROZSVELEN_H
@@ -43,6 +44,10 @@ static inline uint32_t rozsvelen_extra(uint64_t answer) { return (uint32_t)(answ
 
 /* The log that an answer of rozsvelen_judge_logs is about, in place of line and extra: it can be 65,536, which 16 bits do not hold. */
 static inline uint32_t rozsvelen_log(uint64_t answer) { return (uint32_t)(answer >> 32); }
+
+/* The length that an answer of rozsvelen_print_rule gives, in place of count, line and extra: up to 48 bits, the lowest 16 of them where a count
+ * stands, the others in the upper 32. 0 for a refusal. */
+static inline uint64_t rozsvelen_length(uint64_t answer) { return answer >> 32 << 16 | (answer & 0xffff); }
 
 /* The one way to read a verdict: 1 where a node, below ROZSVELEN_NODES, holds at an entry of a judged log or part, else 0. Both words of the entry
  * are there. Of a list of logs, verdicts is where the words of the entry's own log begin. */
@@ -114,6 +119,13 @@ uint64_t rozsvelen_judge_part(const uint16_t *table, size_t table_len, uint32_t 
  * counts them. Every number that is no node's or entry's is refused, by 36 or 37. Questions 31, 32, 36 to 40. Stack: 112 KB. */
 uint64_t rozsvelen_walk(const uint16_t *table, size_t table_len, const uint32_t *log, size_t log_len, uint32_t node, uint32_t entry,
                         uint16_t *edges, size_t edges_len);
+
+/* The rule as text, in the first places of text; rozsvelen_length is how many bytes it has. Each node stands in full brackets, down to the facts,
+ * and an automaton as `m` and its number: T, F, P, N, A, O, D and B lines are `true`, `false`, `f3`, `(!f3)`, `(f1&f2)`, `(f1|f2)`, `(<m0>f1)` and
+ * `([m0]f1)`, with no space and no LF. A node that is named twice is printed twice, so that a text can be exponentially longer than its sheet: no
+ * buffer takes every text. Places behind the text keep their content; those from 2^48 - 1 on are not used. Questions 31, 55 (the text is no longer
+ * than the lent bytes). Stack: 24 KB. */
+uint64_t rozsvelen_print_rule(const uint16_t *table, size_t table_len, uint8_t *text, size_t text_len);
 
 /* The page of a sheet and a log as text, in the first places of page; counts its bytes. A refusal of the sheet or the log is a page too:
  * its one line. Question 44, which a buffer of ROZSVELEN_PAGE bytes always gets a yes from. Stack: 176 KB. */

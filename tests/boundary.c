@@ -1,6 +1,6 @@
 /* What only a caller in C can do or see: the parts of an answer, verdicts, empty slices at NULL, and the stack that each call takes; and numbers
  * with zeros before them, profiles, sheets with spare automata, sheets of up to 128 nodes, logs with counters, steps and entries of counters,
- * through the C calls.
+ * rules as text, through the C calls.
  * Ends in 'N passed, M failed'. */
 #include "rozsvelen.h"
 
@@ -23,7 +23,7 @@ static void check(const char *name, int holds) {
 /* The sheet of the longest walk, with a line of every letter: ahead to the last entry in one state, back to the first in the next. */
 enum { LAST = ROZSVELEN_ENTRIES - 1, SHOWN = 9, VERDICTS = ROZSVELEN_WORDS * ROZSVELEN_ENTRIES };
 static char rules[4096], steps[4096], counted[8192];
-static uint16_t table[ROZSVELEN_TABLE], only_ahead[ROZSVELEN_TABLE], only_back[ROZSVELEN_TABLE], made[ROZSVELEN_TABLE];
+static uint16_t table[ROZSVELEN_TABLE], only_ahead[ROZSVELEN_TABLE], only_back[ROZSVELEN_TABLE], made[ROZSVELEN_TABLE], deep[ROZSVELEN_TABLE];
 static uint16_t row[ROZSVELEN_ROW], edges[ROZSVELEN_WALK], held[2];
 static uint32_t words[ROZSVELEN_ENTRIES], words_again[ROZSVELEN_ENTRIES];
 static uint64_t verdicts[VERDICTS];
@@ -52,6 +52,14 @@ static void write_counted(void) {
     }
 }
 
+/* The sheet whose rule lies deepest: each of its 127 lines behind T names the one before, by N, A, O, D and B in turn. */
+static char deep_rules[4096];
+static void write_deep(void) {
+    static const char *const lines[] = { "N,%d\n", "A,%d,0\n", "O,0,%d\n", "D,0,%d\n", "B,0,%d\n" };
+    char *end = deep_rules + sprintf(deep_rules, "T\nM,1,0\nG,0\nE,0,0,0,0\n");
+    for (int k = 1; k < ROZSVELEN_NODES; k++) end += sprintf(end, lines[(k - 1) % 5], k - 1);
+}
+
 static const uint8_t *text(const char *s) { return (const uint8_t *)s; }
 
 static void read_sheet(void) { answer = rozsvelen_read_sheet(text(rules), strlen(rules), table, ROZSVELEN_TABLE); }
@@ -74,6 +82,7 @@ static void judge_part(const uint16_t *sheet, uint32_t way) {
 }
 static void part_ahead(void) { judge_part(only_ahead, ROZSVELEN_AHEAD); }
 static void part_back(void) { judge_part(only_back, ROZSVELEN_BACK); }
+static void print_rule(void) { answer = rozsvelen_print_rule(deep, ROZSVELEN_TABLE, page, ROZSVELEN_PAGE); }
 static void page_of(size_t bytes) { answer = rozsvelen_page(text(rules), strlen(rules), text(steps), strlen(steps), page, bytes); }
 static void whole_page(void) { page_of(ROZSVELEN_PAGE); }
 static void page_less_one(void) { page_of(ROZSVELEN_PAGE - 1); }
@@ -111,7 +120,7 @@ static void takes(const char *name, void (*call)(void), uint64_t wanted, size_t 
 
 static uint64_t refused(uint64_t number) { return number << 16; }
 
-/* Each part of an answer is taken from its own bits, and a list's log from the bits of two. */
+/* Each part of an answer is taken from its own bits, a list's log from the bits of two, and a text's length from those of three. */
 static void answer_parts(void) {
     enum { LOGS = 65536 };
     static uint32_t entries[LOGS];
@@ -122,6 +131,7 @@ static void answer_parts(void) {
     check("line of an answer", rozsvelen_line(parts) == 0xfff3);
     check("extra of an answer", rozsvelen_extra(parts) == 0xfff4);
     check("log of an answer", rozsvelen_log(parts) == 0xfff4fff3);
+    check("length of an answer", rozsvelen_length(parts) == 0xfff4fff3fff1);
     for (int i = 0; i < LOGS; i++) lengths[i] = 1;
     uint64_t last = rozsvelen_judge_logs(table, ROZSVELEN_TABLE, entries, LOGS, lengths, LOGS, NULL, 0, NULL, 0);
     check("log 65,536 of a list", rozsvelen_number(last) == 32 && rozsvelen_log(last) == LOGS && rozsvelen_count(last) == 0);
@@ -160,6 +170,9 @@ static void empty_slices(void) {
     check("walk with no table", rozsvelen_walk(NULL, 0, words, N, SHOWN, 0, edges, ROZSVELEN_WALK) == refused(31));
     check("walk of no entry", rozsvelen_walk(table, T, NULL, 0, SHOWN, 0, edges, ROZSVELEN_WALK) == refused(32));
     check("walk into no places", rozsvelen_walk(table, T, words, N, SHOWN, 0, NULL, 0) == refused(40));
+    check("print_rule with no table", rozsvelen_print_rule(NULL, 0, page, sizeof page) == refused(31));
+    check("print_rule into no bytes", rozsvelen_print_rule(table, T, NULL, 0) == refused(55));
+    check("print_rule with no table into no bytes", rozsvelen_print_rule(NULL, 0, NULL, 0) == refused(31));
     check("page of no texts", rozsvelen_page(NULL, 0, NULL, 0, page, sizeof page) == 12 && memcmp(page, "refused,2,0\n", 12) == 0);
     check("page of no log", rozsvelen_page(sheet, 2, NULL, 0, page, sizeof page) == 13 && memcmp(page, "refused,22,0\n", 13) == 0);
     check("page into no bytes", rozsvelen_page(NULL, 0, NULL, 0, NULL, 0) == refused(44));
@@ -493,12 +506,158 @@ static void steps_and_entries(void) {
     check("entry of 519", rozsvelen_entry_bearing(7, 512, 519) == refused(30));
 }
 
+static int all_are(const uint8_t *bytes, size_t count, uint8_t old) {
+    int as_wanted = 1;
+    for (size_t i = 0; i < count; i++) as_wanted &= bytes[i] == old;
+    return as_wanted;
+}
+
+/* The rule is printed as wanted in so many bytes, or refused by 55 where the text is longer; all bytes but the text's keep their content, those
+ * behind the slice among them. */
+static int is_printed(const uint16_t *sheet, const char *wanted, size_t bytes, size_t room) {
+    enum { OLD = 0x5a, MOST = 70000 };
+    static uint8_t out[MOST];
+    memset(out, OLD, MOST);
+    uint64_t printed = rozsvelen_print_rule(sheet, ROZSVELEN_TABLE, out, room);
+    if (bytes > room) return printed == refused(55) && all_are(out, MOST, OLD);
+    return rozsvelen_number(printed) == 0 && rozsvelen_length(printed) == bytes && memcmp(out, wanted, bytes) == 0 &&
+           all_are(out + bytes, MOST - bytes, OLD);
+}
+
+/* Rules as text, worked by hand: every letter, facts and automata of one digit and two, a node named twice, and nodes that the rule does not name.
+ * Each in every buffer up to a byte more than its text. */
+#define SPARE "F\nM,1,0\nE,0,0,0,0"
+static void rules_printed(void) {
+    static const struct { int count; const char *line, *lines, *text; } cases[] = {
+        { 0, "", "T\n", "true" },
+        { 0, "", "F\n", "false" },
+        { 0, "", "P,3\n", "f3" },
+        { 0, "", "P,31\n", "f31" },
+        { 0, "", "P,3\nN,0\n", "(!f3)" },
+        { 0, "", "P,1\nP,2\nA,0,1\n", "(f1&f2)" },
+        { 0, "", "P,1\nP,2\nO,0,1\n", "(f1|f2)" },
+        { 0, "", "P,1\nP,12\nO,1,0\n", "(f12|f1)" },
+        { 1, SPARE, "P,1\nD,0,1\n", "(<m0>f1)" },
+        { 1, SPARE, "P,1\nB,0,1\n", "([m0]f1)" },
+        { 10, SPARE, "P,7\nB,9,10\n", "([m9]f7)" },
+        { 16, SPARE, "P,7\nD,15,16\n", "(<m15>f7)" },
+        { 16, SPARE, "P,7\nB,15,16\n", "([m15]f7)" },
+        { 0, "", "P,1\nN,0\nA,1,1\nO,2,0\n", "(((!f1)&(!f1))|f1)" },
+        { 126, "T", "P,30\nN,126\n", "(!f30)" },
+        { 64, "T", "F\nP,5\n", "f5" },
+    };
+    for (size_t i = 0; i < sizeof cases / sizeof *cases; i++) {
+        uint16_t sheet[ROZSVELEN_TABLE];
+        size_t bytes = strlen(cases[i].text);
+        table_of(behind(cases[i].count, cases[i].line, cases[i].lines), sheet);
+        for (size_t room = 0; room <= bytes + 1; room++) check_of("print_rule", cases[i].text, is_printed(sheet, cases[i].text, bytes, room));
+    }
+}
+
+/* Z of document 01: its text just fits, lacks a byte, and leaves one. */
+static void rule_of_z(void) {
+    enum { T = ROZSVELEN_TABLE, BYTES = 22 };
+    static const char z[] = "P,0\nP,1\nP,2\nN,0\nT\nM,1,0\nG,0\nE,0,2,3,0\nD,0,1\nN,2\nO,6,5\nM,1,0\nG,0\nE,0,1,4,0\nB,1,7\n";
+    static const char wanted[] = "([m1]((!f2)|(<m0>f1)))", before[] = "#######################";
+    uint16_t sheet[T];
+    char out[] = "#######################";
+    table_of(z, sheet);
+    check("the rule of Z in no bytes", rozsvelen_print_rule(sheet, T, (uint8_t *)out, 0) == refused(55));
+    check("the rule of Z in 21 bytes", rozsvelen_print_rule(sheet, T, (uint8_t *)out, 21) == refused(55));
+    check("the rule of Z, refused, the bytes lent", strcmp(out, before) == 0);
+    check("the rule of Z in 22 bytes", rozsvelen_print_rule(sheet, T, (uint8_t *)out, 22) == BYTES);
+    check("the rule of Z", memcmp(out, wanted, BYTES) == 0 && out[BYTES] == '#');
+    memcpy(out, before, sizeof out);
+    check("the rule of Z in 23 bytes", rozsvelen_print_rule(sheet, T, (uint8_t *)out, 23) == BYTES);
+    check("the rule of Z, the byte behind", memcmp(out, wanted, BYTES) == 0 && out[BYTES] == '#');
+}
+
+/* 31 comes before 55, and alters nothing where there is room. */
+static void no_rules(void) {
+    enum { T = ROZSVELEN_TABLE, ROOM = 8 };
+    static const uint16_t zeros[T];
+    uint16_t sheet[T + 1] = { 0 }, large[T];
+    uint8_t out[ROOM];
+    memset(out, '#', ROOM);
+    table_of("P,3\n", sheet);
+    memcpy(large, sheet, sizeof large);
+    large[1] += 256;
+    for (size_t room = 0; room <= ROOM; room += ROOM) {
+        check("print_rule of the table of zeros", rozsvelen_print_rule(zeros, T, out, room) == refused(31));
+        check("print_rule of a number less", rozsvelen_print_rule(sheet, T - 1, out, room) == refused(31));
+        check("print_rule of a number more", rozsvelen_print_rule(sheet, T + 1, out, room) == refused(31));
+        check("print_rule of a number that no table has", rozsvelen_print_rule(large, T, out, room) == refused(31));
+    }
+    check("print_rule, refused, the bytes lent", all_are(out, ROOM, '#'));
+    check("print_rule of the table itself", rozsvelen_print_rule(sheet, T, out, ROOM) == 2 && memcmp(out, "f3######", ROOM) == 0);
+}
+
+/* A line, so many A lines that each name the one before twice, and so many N lines. */
+static const char *doubled(const char *line, int times, int under) {
+    static char sheet[4096];
+    char *end = sheet + sprintf(sheet, "%s\n", line);
+    for (int k = 0; k < times; k++) end += sprintf(end, "A,%d,%d\n", k, k);
+    for (int k = times; k < times + under; k++) end += sprintf(end, "N,%d\n", k);
+    return sheet;
+}
+
+/* Texts of astronomical length are refused at once. Of `false`, doubled so often, the text has 2^(3 + times) - 3 bytes; two N lines make it 2^n + 3,
+ * which cut to n bits would have room. */
+static void endless_rules(void) {
+    static const struct { const char *name, *line; int times, under; } cases[] = {
+        { "7 * 2^40 - 3 bytes", "T", 40, 0 }, { "2^32 + 3 bytes", "F", 29, 2 },   { "2^48 + 3 bytes", "F", 45, 2 },
+        { "2^64 + 3 bytes", "F", 61, 2 },     { "2^128 + 3 bytes", "F", 125, 2 },
+    };
+    for (size_t i = 0; i < sizeof cases / sizeof *cases; i++) {
+        uint16_t sheet[ROZSVELEN_TABLE];
+        table_of(doubled(cases[i].line, cases[i].times, cases[i].under), sheet);
+        check_of("a text", cases[i].name, is_printed(sheet, NULL, SIZE_MAX, 4096));
+    }
+}
+
+/* Makes a text that of an A line which names its node twice; of an N line. How many bytes it then has. */
+static size_t twice(char *bytes, size_t count) {
+    memmove(bytes + 1, bytes, count);
+    memcpy(bytes + count + 2, bytes + 1, count);
+    bytes[0] = '(';
+    bytes[count + 1] = '&';
+    bytes[2 * count + 2] = ')';
+    return 2 * count + 3;
+}
+static size_t negated(char *bytes, size_t count) {
+    memmove(bytes + 2, bytes, count);
+    memcpy(bytes, "(!", 2);
+    bytes[count + 2] = ')';
+    return count + 3;
+}
+
+/* Texts about the largest length that 16 bits hold: all bits of the length are given. */
+static void long_rules(void) {
+    enum { TIMES = 13, MOST = 65536 + 3 };
+    static const struct { const char *name; uint64_t answer; } cases[] = {
+        { "65,533 bytes", 65533 }, { "65,536 bytes", (uint64_t)1 << 32 }, { "65,539 bytes", ((uint64_t)1 << 32) + 3 }
+    };
+    static char wanted[MOST];
+    static uint8_t out[MOST];
+    size_t bytes = (size_t)sprintf(wanted, "false");
+    for (int k = 0; k < TIMES; k++) bytes = twice(wanted, bytes);
+    for (int under = 0; under < 3; under++) {
+        uint16_t sheet[ROZSVELEN_TABLE];
+        if (under > 0) bytes = negated(wanted, bytes);
+        table_of(doubled("F", TIMES, under), sheet);
+        for (size_t room = bytes - 1; room <= bytes + 1; room++) check_of("a text", cases[under].name, is_printed(sheet, wanted, bytes, room));
+        check_of("the answer", cases[under].name, rozsvelen_print_rule(sheet, ROZSVELEN_TABLE, out, MOST) == cases[under].answer);
+    }
+}
+
 int main(void) {
     enum { BYTES = 10 * 4 + 90 * 5 + 412 * 6 + 23 + 10 + 5 * 511 * 2 + 11 * 511 * 3 + 5 * 2 + 10 * 3 }; /* of the page: entries, rule, walk */
+    enum { DEEP = 4 + 25 * (3 + 7 + 7 + 6 + 6) + 3 + 7 }; /* of the deepest rule: true, 25 times the five letters, N, A */
     static const char ahead[] = "T\nP,0\nM,1,0\nG,0\nE,0,1,0,0\nE,0,0,1,0\nD,0,1\nB,0,1\n";
     static const char back[] = "T\nP,0\nM,1,0\nG,0\nE,0,2,0,0\nE,0,0,1,0\nD,0,1\nB,0,1\n";
     write_texts();
     write_counted();
+    write_deep();
     takes("read_sheet", read_sheet, 0, 16);
     takes("profile", profile, 0, 8);
     takes("in_profile", in_profile, 1, 8);
@@ -516,6 +675,8 @@ int main(void) {
     takes("judge_part ahead", part_ahead, 0, 72);
     takes("judge_part back", part_back, 0, 72);
     takes("walk", walk, ROZSVELEN_WALK, 112);
+    rozsvelen_read_sheet(text(deep_rules), strlen(deep_rules), deep, ROZSVELEN_TABLE);
+    takes("print_rule", print_rule, DEEP, 24);
     takes("page", whole_page, BYTES, 176);
     takes("page, a byte less", page_less_one, BYTES, 176);
     takes("page in 1023 bytes", short_page, refused(44), 176);
@@ -533,6 +694,11 @@ int main(void) {
     counters_read();
     counters_refused();
     steps_and_entries();
+    rules_printed();
+    rule_of_z();
+    no_rules();
+    endless_rules();
+    long_rules();
     printf("%d passed, %d failed\n", passed, failed);
     return failed != 0;
 }

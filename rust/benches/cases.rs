@@ -5,6 +5,10 @@ pub const Z: &str = "P,0\nP,1\nP,2\nN,0\nT\nM,1,0\nG,0\nE,0,2,3,0\nD,0,1\nN,2\nO
 /// Document 01's sheet W, which looks only ahead.
 pub const W: &str = "T\nP,1\nM,1,0\nG,0\nE,0,1,0,0\nD,0,1\n";
 
+/// A rule of 4,093 bytes: a D and a B of opposites of facts in 29 bytes, and seven times two of what stands before.
+pub const LONG_RULE: &str = "P,1\nP,20\nN,0\nN,1\nM,1,0\nG,0\nE,0,1,0,0\nD,0,2\nB,0,3\nO,4,5\nN,6\n\
+    A,7,7\nO,8,8\nA,9,9\nO,10,10\nA,11,11\nO,12,12\nA,13,13\n";
+
 /// A sheet's text and a log.
 pub type Case = (String, Vec<u32>);
 

@@ -4,6 +4,7 @@
 //!
 //!     cargo bench
 mod cases;
+mod printing;
 mod reading;
 mod same;
 mod timing;
@@ -114,6 +115,7 @@ fn main() {
     walking("walk of 511 edges, sheet W", (W, &zigzag_log), 2, 100);
     walking("walk on the zigzag", (&zigzag_text, &zigzag_log), 2, 5);
     reading::reading();
+    printing::printing();
     let (hard_text, hard_log) = hard(2);
     for entries in [64, 128, 256, 512] {
         judging(&format!("hard sheet on {entries} entries"), &hard_text, &hard_log[..entries]);

@@ -1,6 +1,6 @@
 //! That the versions give the same answers.
 use crate::cases::large;
-use crate::unproved::{bitsets, queue, steps, walks};
+use crate::unproved::{bitsets, printing, queue, steps, walks};
 use rozsvelen::{Sheet, Way, ENTRIES, NODES, WALK, WORDS};
 
 /// The words and the count of a log.
@@ -20,6 +20,14 @@ pub fn walk(name: &str, sheet: &Sheet, log: &[u32], node: usize) -> bool {
     assert_eq!(length, walks::walk(sheet.numbers(), log, node, 0, &mut b), "{name}: the walks' lengths differ");
     assert!(a == b, "{name}: the walks differ");
     length.is_some()
+}
+
+/// The rule as text in so many bytes, and the bytes.
+pub fn rule(sheet: &Sheet, room: usize) {
+    let [mut a, mut b] = [0, 1].map(|_| vec![7; room]);
+    let printed = rozsvelen::print_rule(sheet, &mut a).ok();
+    assert_eq!(printed, printing::print_rule(sheet.numbers(), &mut b), "{sheet:?} in {room} bytes: the texts' lengths differ");
+    assert!(a == b, "{sheet:?} in {room} bytes: the texts differ");
 }
 
 /// The words and the row of a part beside a row of many bits.

@@ -114,6 +114,15 @@ pub fn walk(table: &[u16; TABLE], log: &[u32], node: u32, entry: u32, edges: &mu
     answer(unsafe { rozsvelen_walk(table.as_ptr(), table.len(), log.as_ptr(), log.len(), node, entry, edges.as_mut_ptr(), edges.len()) })
 }
 
+/// An answer's length: its lowest 16 bits stand where a count does, the others in the upper 32.
+fn answer_of_length(code: u64) -> Result<usize, Refused> {
+    Ok((code >> 32 << 16) as usize | answer(code)?)
+}
+
+pub fn print_rule(table: &[u16; TABLE], text: &mut [u8]) -> Result<usize, Refused> {
+    answer_of_length(unsafe { rozsvelen_print_rule(table.as_ptr(), table.len(), text.as_mut_ptr(), text.len()) })
+}
+
 pub fn page(rules: &[u8], steps: &[u8], page: &mut [u8]) -> Result<usize, Refused> {
     answer(unsafe { rozsvelen_page(rules.as_ptr(), rules.len(), steps.as_ptr(), steps.len(), page.as_mut_ptr(), page.len()) })
 }

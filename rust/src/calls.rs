@@ -47,5 +47,6 @@ extern "C" {
         edges: *mut u16,
         edges_len: usize,
     ) -> u64;
+    pub fn rozsvelen_print_rule(table: *const u16, table_len: usize, text: *mut u8, text_len: usize) -> u64;
     pub fn rozsvelen_page(rules: *const u8, rules_len: usize, steps: *const u8, steps_len: usize, page: *mut u8, page_len: usize) -> u64;
 }

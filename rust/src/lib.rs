@@ -401,6 +401,24 @@ pub fn walk(sheet: &Sheet, log: &[u32], node: u32, entry: u32, edges: &mut [u16]
     boundary::walk(&sheet.table, log, node, entry, edges)
 }
 
+/// The rule as text, in the first places of `text`: each node in full brackets, automata as `m` and their number, down to the facts. The lines T, F,
+/// P, N, A, O, D and B are `true`, `false`, `f3`, `(!f3)`, `(f1&f2)`, `(f1|f2)`, `(<m0>f1)` and `([m0]f1)`; there is no space and no LF. Gives how
+/// many bytes the text has; the places behind it keep their content. A node that is named twice is printed twice, so that a text can be exponentially
+/// longer than its sheet: 55 where it is longer than `text`. A refusal alters nothing.
+///
+/// ```
+/// use rozsvelen::{print_rule, Refused, Sheet};
+/// // Z of document 01: from here on, a plate is made only after an approval that follows the last change
+/// let sheet = Sheet::read(b"P,0\nP,1\nP,2\nN,0\nT\nM,1,0\nG,0\nE,0,2,3,0\nD,0,1\nN,2\nO,6,5\nM,1,0\nG,0\nE,0,1,4,0\nB,1,7\n").unwrap();
+/// let mut text = [b'#'; 24];
+/// assert_eq!(print_rule(&sheet, &mut text), Ok(22));
+/// assert_eq!(&text, b"([m1]((!f2)|(<m0>f1)))##");
+/// assert_eq!(print_rule(&sheet, &mut text[..21]), Err(Refused { number: 55, line: 0 }));
+/// ```
+pub fn print_rule(sheet: &Sheet, text: &mut [u8]) -> Result<usize, Refused> {
+    boundary::print_rule(&sheet.table, text)
+}
+
 /// The page of a sheet and a log, as the program prints it.
 ///
 /// ```

@@ -7,6 +7,8 @@ use rozsvelen::{holds, Sheet, ENTRIES, NODES, PAGE, ROW, TABLE, WORDS};
 mod calls;
 #[path = "boundary/nodes.rs"]
 mod nodes;
+#[path = "boundary/printing.rs"]
+mod printing;
 #[path = "boundary/spares.rs"]
 mod spares;
 
@@ -98,6 +100,10 @@ fn plain_row(table: &[u16], row: &mut [u16]) -> u64 {
 
 fn walk(table: &[u16], log: &[u32], node: u32, entry: u32, edges: &mut [u16]) -> u64 {
     unsafe { rozsvelen_walk(table.as_ptr(), table.len(), log.as_ptr(), log.len(), node, entry, edges.as_mut_ptr(), edges.len()) }
+}
+
+fn print_rule(table: &[u16], text: &mut [u8]) -> u64 {
+    unsafe { rozsvelen_print_rule(table.as_ptr(), table.len(), text.as_mut_ptr(), text.len()) }
 }
 
 fn page(rules: &[u8], steps: &[u8], page: &mut [u8]) -> u64 {
@@ -358,6 +364,7 @@ fn numbers_that_are_no_tables_are_31() {
         let mut row = [7; ROW];
         let mut edges = [5; 3];
         let mut made = [3; TABLE];
+        let mut text = [b'#'; 8];
         assert_eq!(profile(numbers, &mut made), refusal(31, 0));
         assert_eq!(in_profile(numbers), refusal(31, 0));
         assert_eq!(rule_looks(numbers), refusal(31, 0));
@@ -365,7 +372,8 @@ fn numbers_that_are_no_tables_are_31() {
         assert_eq!(plain_row(numbers, &mut row), refusal(31, 0));
         assert_eq!(judge_part(numbers, 1, &mut row, &[2], &mut verdicts), refusal(31, 0));
         assert_eq!(walk(numbers, &[2], 2, 0, &mut edges), refusal(31, 0));
-        assert_eq!((row, verdicts, edges, made), ([7; ROW], [9; 1 + WORDS], [5; 3], [3; TABLE]));
+        assert_eq!(print_rule(numbers, &mut text), refusal(31, 0));
+        assert_eq!((row, verdicts, edges, made, text), ([7; ROW], [9; 1 + WORDS], [5; 3], [3; TABLE], [b'#'; 8]));
     }
 }
 

@@ -102,6 +102,28 @@ pub fn largest_sheet(random: &mut Random, nodes: usize) -> String {
     text
 }
 
+/// A sheet whose rule can have a text of any length: each node behind the leaves and automata names nodes of the last three before it, mostly the
+/// last.
+pub fn tangled_sheet(random: &mut Random) -> String {
+    let most = if random.one_in(8) { NODES } else { 28 };
+    let (leaves, automata) = (3, random.below(17));
+    let mut w = Writer { random, text: String::new(), nodes: 0, plain: vec![], automata: 0, edges: 0 };
+    (0..leaves).for_each(|_| w.leaf());
+    (0..automata).for_each(|_| w.automaton(Looks::Both, 2));
+    for k in leaves..leaves + 1 + w.random.below(most - leaves) {
+        let [a, b] = [0, 1].map(|_| k - 1 - w.random.below(2) * w.random.below(3));
+        let m = w.random.below(automata.max(1));
+        w.text += &match w.random.below(if automata > 0 { 7 } else { 5 }) {
+            0 => format!("N,{a}\n"),
+            1 | 2 => format!("A,{a},{b}\n"),
+            3 | 4 => format!("O,{a},{b}\n"),
+            5 => format!("D,{m},{a}\n"),
+            _ => format!("B,{m},{a}\n"),
+        };
+    }
+    w.text
+}
+
 impl Writer<'_> {
     fn leaf(&mut self) {
         self.text += &match self.random.below(6) {

@@ -17,17 +17,25 @@ use compare::lists::{compare_logs, Logs};
 use compare::looks::compare_looks;
 use compare::pages::compare_page;
 use compare::parts::{compare_part, compare_run, Part, Run};
+use compare::printing::{compare_print, CAP};
 use compare::profile::compare_profile;
 use compare::texts::{compare_counted, compare_log, compare_sheet};
 use compare::walks::compare_walk;
 use compare::Table;
-use generate::{counted_text, first_counter, largest_sheet, log, log_text, sheet, sheet_of, Looks, Random, Size};
+use generate::{counted_text, first_counter, largest_sheet, log, log_text, sheet, sheet_of, tangled_sheet, Looks, Random, Size};
 use generate::{perhaps_damaged, perhaps_damaged_table, perhaps_padded};
 use kinds::Kinds;
 use rozsvelen::PAGE;
 
+/// A random sheet that reads; its rule is printed.
+fn any_sheet(random: &mut Random, kinds: &mut Kinds, looks: Looks) -> String {
+    let text = sheet(random, looks);
+    compare_print(kinds, &Table::of(&text), CAP);
+    text
+}
+
 fn sheet_case(random: &mut Random, kinds: &mut Kinds) {
-    let text = sheet(random, Looks::Both);
+    let text = any_sheet(random, kinds, Looks::Both);
     let text = perhaps_padded(random, &text);
     compare_sheet(kinds, &perhaps_damaged(random, text));
 }
@@ -86,7 +94,7 @@ fn entry_case(random: &mut Random, kinds: &mut Kinds) {
 }
 
 fn page_case(random: &mut Random, kinds: &mut Kinds) {
-    let rules = sheet(random, Looks::Both);
+    let rules = any_sheet(random, kinds, Looks::Both);
     let entries = 1 + random.below(12);
     let steps = log_text(&log(random, entries));
     let [rules, steps] = [rules, steps].map(|text| perhaps_padded(random, &text));
@@ -111,7 +119,7 @@ fn judge_case(random: &mut Random, kinds: &mut Kinds) {
         (Looks::Back, "judge: sheet looks back"),
         (Looks::Both, "judge: sheet looks both ways"),
     ]);
-    let table = Table::of(&sheet(random, looks));
+    let table = Table::of(&any_sheet(random, kinds, looks));
     let entries = entries(random, 10);
     let accepted = judge_and_show(random, kinds, &table, entries);
     kinds.saw_if(accepted, kind);
@@ -164,9 +172,10 @@ fn node_to_show(random: &mut Random, table: &Table) -> usize {
 /// Sheets and logs as large as they may be.
 fn largest_case(random: &mut Random, kinds: &mut Kinds) {
     let table = Table::of(&largest_sheet(random, NODES));
+    compare_print(kinds, &table, CAP);
     let accepted = judge_and_show(random, kinds, &table, 8);
     kinds.saw_if(accepted, "judge: sheet at every limit");
-    let table = Table::of(&sheet(random, Looks::Both));
+    let table = Table::of(&any_sheet(random, kinds, Looks::Both));
     judge_and_show(random, kinds, &table, 512);
 }
 
@@ -188,13 +197,15 @@ fn long_case(random: &mut Random, kinds: &mut Kinds) {
 /// Every call that is lent a table, on one that may have been changed.
 fn table_case(random: &mut Random, kinds: &mut Kinds) {
     let looks = *random.pick(&[Looks::Ahead, Looks::Back, Looks::Both]);
-    let read = *Table::of(&sheet(random, looks)).ours.numbers();
+    let read = *Table::of(&any_sheet(random, kinds, looks)).ours.numbers();
     let numbers = perhaps_damaged_table(random, read);
     let table = Table::from_numbers(numbers);
     let is_changed = numbers != read;
     compare_plain_row(kinds, &table);
     let looks_given = compare_looks(kinds, &table).is_some();
     kinds.saw_if(is_changed && looks_given, "rule_looks: changed table that some sheet gives");
+    let printed = compare_print(kinds, &table, CAP);
+    kinds.saw_if(is_changed && printed, "print_rule: changed table that some sheet gives");
     let words = log_of(random, 3);
     let judged = table.judged(&words);
     let accepted = compare_judging(kinds, &table, &words, &judged, 2 * words.len());
@@ -213,7 +224,7 @@ fn log_of(random: &mut Random, most: usize) -> Vec<u32> {
 fn part_case(random: &mut Random, kinds: &mut Kinds) {
     let ahead = random.one_in(2);
     let looks = if random.one_in(6) { Looks::Both } else { looks_only(ahead) };
-    let table = Table::of(&sheet(random, looks));
+    let table = Table::of(&any_sheet(random, kinds, looks));
     let accepted = part_of(random, kinds, &table, ahead);
     kinds.saw_if(accepted, "judge_part: a row that no part gave");
 }
@@ -260,7 +271,7 @@ fn short_parts(random: &mut Random) -> Vec<usize> {
 /// A run over parts of so many entries, by a sheet all of whose edges go one way.
 fn one_way_run(random: &mut Random, kinds: &mut Kinds, entries: &[usize]) {
     let ahead = random.one_in(2);
-    let table = Table::of(&sheet(random, looks_only(ahead)));
+    let table = Table::of(&any_sheet(random, kinds, looks_only(ahead)));
     let parts = parts_of(random, entries);
     compare_run(kinds, &table, &Run { ahead, parts: &parts, ignored: [0; NODES] });
 }
@@ -273,7 +284,7 @@ fn parts_of(random: &mut Random, entries: &[usize]) -> Vec<(Vec<u32>, usize)> {
 /// A sheet whose automata look each its own way, so that a spare one may look the other way than the rule. Its logs are cut both ways; runs are given
 /// rows with any bits in the ignored places.
 fn spare_case(random: &mut Random, kinds: &mut Kinds) {
-    let table = Table::of(&sheet(random, Looks::EachItsOwn));
+    let table = Table::of(&any_sheet(random, kinds, Looks::EachItsOwn));
     compare_plain_row(kinds, &table);
     compare_looks(kinds, &table);
     for ahead in [true, false] {
@@ -287,7 +298,7 @@ fn spare_case(random: &mut Random, kinds: &mut Kinds) {
 
 /// Many logs of one sheet in one call; the table, the lengths, the words and the places lent may each be other than they should.
 fn logs_case(random: &mut Random, kinds: &mut Kinds) {
-    let read = *Table::of(&sheet(random, Looks::Both)).ours.numbers();
+    let read = *Table::of(&any_sheet(random, kinds, Looks::Both)).ours.numbers();
     let numbers = if random.one_in(4) { perhaps_damaged_table(random, read) } else { read };
     let table = Table::from_numbers(numbers);
     let mut lengths: Vec<u16> = (0..random.below(7)).map(|_| 1 + random.below(6) as u16).collect();
@@ -329,19 +340,31 @@ fn profile_case(random: &mut Random, kinds: &mut Kinds) {
     let table = Table::from_numbers(numbers);
     let entries = 1 + random.below(8);
     let words = log(random, entries);
+    compare_print(kinds, &table, CAP);
     let made = compare_profile(kinds, &table, &words);
+    if let Some(made) = &made {
+        compare_print(kinds, made, CAP);
+    }
     kinds.saw_if(made.is_some() && numbers != read, "profile: of a changed table that some sheet gives");
     let again = made.and_then(|made| compare_profile(kinds, &made, &words));
     kinds.saw_if(again.is_some(), "profile: of a profile");
+}
+
+/// The rule of a sheet on which nodes are named again and again, or of a table that may have been changed.
+fn print_case(random: &mut Random, kinds: &mut Kinds) {
+    let read = *Table::of(&tangled_sheet(random)).ours.numbers();
+    let numbers = if random.one_in(4) { perhaps_damaged_table(random, read) } else { read };
+    compare_print(kinds, &Table::from_numbers(numbers), CAP);
 }
 
 fn main() {
     let from = |name: &str, default: u64| std::env::var(name).ok().and_then(|v| v.parse().ok()).unwrap_or(default);
     let (cases, seed) = (from("ROZSVELEN_CASES", 200_000), from("ROZSVELEN_SEED", 1));
     let mut random = Random(seed);
-    // lists of logs, counters, profiles and spare automata have numbers of their own: the other cases are the same with them and without them
+    // lists of logs, counters, profiles, spare automata and rules as text have numbers of their own: the other cases are the same with them and
+    // without them
     let [mut random_logs, mut random_counters, mut random_profiles] = [!seed, seed ^ 1 << 63, !seed ^ 1 << 63].map(Random);
-    let mut random_spares = Random(seed ^ 1 << 62);
+    let [mut random_spares, mut random_rules] = [seed ^ 1 << 62, !seed ^ 1 << 62].map(Random);
     let mut kinds = Kinds::default();
     limits::all(&mut kinds);
     for case in 0..cases {
@@ -361,6 +384,7 @@ fn main() {
         };
         one(&mut random, &mut kinds);
         match case % 9 {
+            0 => print_case(&mut random_rules, &mut kinds),
             1 => counted_case(&mut random_counters, &mut kinds),
             4 => profile_case(&mut random_profiles, &mut kinds),
             6 => spare_case(&mut random_spares, &mut kinds),

@@ -3,7 +3,7 @@ use std::collections::BTreeMap;
 use std::fmt;
 
 /// Every call and the numbers by which it refuses; for the page, the numbers that stand on it.
-const REFUSALS: [(&str, &[u8]); 14] = [
+const REFUSALS: [(&str, &[u8]); 15] = [
     ("read_sheet", &[1, 2, 3, 4, 5, 6, 7, 8, 9, 10, 11]),
     ("profile", &[31, 42]),
     ("in_profile", &[31]),
@@ -16,11 +16,12 @@ const REFUSALS: [(&str, &[u8]); 14] = [
     ("plain_row", &[31]),
     ("judge_part", &[31, 34, 32, 33]),
     ("walk", &[31, 32, 36, 37, 38, 39, 40]),
+    ("print_rule", &[31, 55]),
     ("page", &[1, 2, 3, 4, 5, 6, 7, 8, 9, 10, 11, 21, 22, 23, 24, 25, 26]),
     ("page_in", &[44]),
 ];
 
-const OTHERS: [&str; 129] = [
+const OTHERS: [&str; 152] = [
     "read_sheet: read",
     "read_sheet: cut short within a line",
     "read_sheet: a byte above 127",
@@ -142,6 +143,29 @@ const OTHERS: [&str; 129] = [
     "walk: of a node above 63",
     "walk: by an edge that tests a node above 63",
     "walk: 37 of a number above 65535",
+    "print_rule: T",
+    "print_rule: F",
+    "print_rule: P",
+    "print_rule: P of a fact above 9",
+    "print_rule: N",
+    "print_rule: A",
+    "print_rule: O",
+    "print_rule: D",
+    "print_rule: D of an automaton above 9",
+    "print_rule: B",
+    "print_rule: B of an automaton above 9",
+    "print_rule: a node printed twice",
+    "print_rule: a node not printed",
+    "print_rule: a node that only an edge tests not printed",
+    "print_rule: a text that just fits",
+    "print_rule: a text of 4096 bytes",
+    "print_rule: a text of more than 65535 bytes",
+    "print_rule: bytes beyond the text kept",
+    "print_rule: 55 of a byte too few",
+    "print_rule: 55 of a text longer than the cap",
+    "print_rule: 55 of a length that 32 bits do not hold",
+    "print_rule: 55 of a length that 64 bits do not hold",
+    "print_rule: changed table that some sheet gives",
     "page: with a walk",
     "page: with a walk of a rule above 63",
     "page: without a walk",

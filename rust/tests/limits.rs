@@ -1,4 +1,4 @@
-//! Sheets, profiles, what rules stand on, logs, counters, lists of logs, pages and walks at the limits.
+//! Sheets, profiles, what rules stand on, rules as text, logs, counters, lists of logs, pages and walks at the limits.
 use crate::checker::sheets::NODES;
 use crate::compare::counters::{compare_entry, compare_steps};
 use crate::compare::judging::compare_judging;
@@ -6,6 +6,7 @@ use crate::compare::lists::{compare_logs, Logs};
 use crate::compare::looks::compare_looks;
 use crate::compare::pages::compare_page;
 use crate::compare::parts::{compare_part, Part};
+use crate::compare::printing::{compare_print, CAP};
 use crate::compare::profile::compare_profile;
 use crate::compare::texts::{compare_counted, compare_log, compare_sheet};
 use crate::compare::walks::compare_walk;
@@ -21,6 +22,8 @@ pub fn all(kinds: &mut Kinds) {
     texts(kinds);
     profiles(kinds);
     rules_that_look(kinds);
+    long_rules(kinds);
+    deep_rules(kinds);
     counted_logs(kinds);
     counters(kinds);
     longest_walk(kinds);
@@ -87,6 +90,37 @@ fn rules_that_look(kinds: &mut Kinds) {
             }
         }
     }
+}
+
+/// Rules whose texts have 2^n - 3 bytes, 2^n and 2^n + 3, about as many as are written out, as 16, 32, 48 or 64 bits can count, and as no number can:
+/// F, each A line of the one before twice, and N lines.
+fn long_rules(kinds: &mut Kinds) {
+    for (n, cap) in [(12, CAP - 1), (12, CAP), (12, CAP + 1), (16, 1 << 17), (19, 1 << 20), (32, CAP), (48, CAP), (64, CAP), (NODES, CAP)] {
+        let mut text = "F\n".to_string() + &(0..n - 3).map(|k| format!("A,{k},{k}\n")).collect::<String>();
+        for k in n - 3..n {
+            compare_print(kinds, &Table::of(&text), cap);
+            text += &format!("N,{k}\n");
+        }
+    }
+}
+
+/// The deepest rules, each line of the one before, by each letter and every automaton; and all facts in one rule.
+fn deep_rules(kinds: &mut Kinds) {
+    let automata = "M,1,0\nE,0,0,0,0\n".repeat(16);
+    let by_letter: [fn(usize) -> String; 5] = [
+        |k| format!("N,{k}\n"),
+        |k| format!("A,{k},0\n"),
+        |k| format!("O,0,{k}\n"),
+        |k| format!("D,{},{k}\n", k % 16),
+        |k| format!("B,{},{k}\n", k % 16),
+    ];
+    for line in by_letter {
+        let lines: String = (0..NODES - 1).map(line).collect();
+        compare_print(kinds, &Table::of(&format!("P,31\n{automata}{lines}")), CAP);
+    }
+    let facts: String = (0..32).map(|f| format!("P,{f}\n")).collect();
+    let all: String = (0..31).map(|f| format!("O,{f},{}\n", f + 31)).collect();
+    compare_print(kinds, &Table::of(&(facts + &all)), CAP);
 }
 
 /// Logs with counters of as many lines and bytes as there may be, and one more, round the turn. A 513th line is 23 whatever is on it.

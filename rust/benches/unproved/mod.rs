@@ -2,6 +2,7 @@
 //! questions as the library does, so that the same work is timed.
 pub mod bitsets;
 pub mod given;
+pub mod printing;
 pub mod queue;
 pub mod readers;
 pub mod steps;

@@ -5,6 +5,7 @@ pub mod lists;
 pub mod looks;
 pub mod pages;
 pub mod parts;
+pub mod printing;
 pub mod profile;
 pub mod texts;
 pub mod walks;
