@@ -4,8 +4,8 @@
  * got a no (0: accepted); the line that the question is about (from 1; 0 for questions not about a line); and what a function gives besides
  * (each says what; else 0). Where a list of logs is judged, the upper 32 bits are the log that the question is about; where a rule is printed,
  * they are the upper bits of the text's length.
- * A refusal alters nothing that was lent. The questions about texts and profiles and their numbers stand in docs/SHEETS.md and docs/LOGS.md,
- * those about judging and walks in document 01, the one about printing a rule (55) in document 02; three are the boundary's own:
+ * A refusal alters nothing that was lent. The questions about texts, profiles and printed rules and their numbers stand in docs/SHEETS.md and
+ * docs/LOGS.md, those about judging and walks in document 01; three are the boundary's own:
  *   35  a table or row to be written has its fixed length. Asked first.
  *   43  a way is ROZSVELEN_AHEAD or ROZSVELEN_BACK. Asked after 35.
  *   44  a page fits in the lent bytes.
@@ -13,8 +13,8 @@
  *
  * A slice is a pointer and the number of its elements. The pointer is aligned as its type asks, and may be NULL or anything else where the
  * number is 0: then it is not followed. What is lent for writing overlaps nothing else that is lent to the same call; what is only read may
- * overlap. No function keeps a pointer, keeps anything between calls, allocates, or calls anything but memcpy, memmove and memset: threads may call at
- * the same time where none writes what another is lent.
+ * overlap. No function keeps a pointer, keeps anything between calls, allocates, or calls anything but memcpy, memmove and memset: threads may
+ * call at the same time where none writes what another is lent.
  * Stack: a call takes no more than is said at it, in kilobytes of 1024 bytes (measured, on x86-64, by tests/boundary.c). */
 #ifndef ROZSVELEN_H
 #define ROZSVELEN_H

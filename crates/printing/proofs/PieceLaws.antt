@@ -2,7 +2,7 @@
 use Prim.Native.Nat.{ℕ, _+_, _/_, _≤_, _<_}
 use mathlib.Core.Path.{_≡_, refl, sym, ap, _∙_}
 use mathlib.Core.Bool.{Bool, true, false, cond}
-use mathlib.Core.List.{List, [], _∷_, _++_}
+use mathlib.Core.List.{List, [], _∷_}
 use native.Mathlib.Omega.{arith}
 use native.Mathlib.Nat.{div-add-mod'}
 use borrow.Author.Tests.{eq-eqb, ne-eqb}
@@ -11,7 +11,7 @@ use lib.ListN.{length, length-append}
 use Rattle.aldlf.specs.Constants.{letterT, letterP, letterN, letterA, letterO, letterD, letterB}
 use Rattle.aldlf.specs.Sheet.{T, F, P, lineOf}
 use Rattle.aldlf.specs.declared.NodeLine.{NodeLine}
-use Rattle.appending.specs.Appending.{digit, decimal}
+use Rattle.appending.specs.Appending.{decimal}
 use Rattle.appending.proofs.Decimals.{decimal-one, decimal-more}
 use Rattle.printing.specs.Print.{trueText, falseText, marked, lineText}
 use Rattle.printing.specs.Pieces.{leafText, prefixText, operandOf, operatorOf}

@@ -1,7 +1,6 @@
 -- What request S-7 says of printing a rule: `PrintRight`. It computes nothing; proofs/ shows that every answer is right.
 use Prim.Native.Nat.{ℕ, _≤_, _<_}
 use mathlib.Core.Path.{_≡_}
-use mathlib.Core.Bool.{true, false}
 use mathlib.Core.Logic.{_↔_}
 use mathlib.Core.List.{List}
 use lib.ListN.{length, getD, take, drop}

@@ -6,9 +6,8 @@ use mathlib.Core.Logic.{_⊎_, inl, inr}
 use native.Mathlib.Omega.{arith}
 use lib.ListN.{length, getD, take, drop}
 use lib.Seq.{drop-drop}
-use lib.Dec.{ltb}
 use borrow.Author.Tests.{lt-ltb, le-ltb, le-leb, lt-leb}
-use Rattle.text.specs.Text.{comma, fields, upTo, number, CutOf}
+use Rattle.text.specs.Text.{comma, fields, upTo, CutOf}
 use Rattle.text.specs.declared.Cut.{Cut}
 use Rattle.text.proofs.Fields.{fieldsFrom, fields-start, fields-step}
 use Rattle.sheet.specs.declared.line.Line.{Line}

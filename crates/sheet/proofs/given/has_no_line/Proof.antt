@@ -7,8 +7,6 @@ use mathlib.Core.Path.{_≡_}
 use native.Mathlib.Omega.{arith}
 use Rattle.sheet.proofs.given.has_no_line.Statement.{statement}
 use Rattle.sheet.proofs.given.has_no_line.Tie as tie
-use Rattle.sheet.proofs.given.has_no_line.Reads as reads
-use Rattle.sheet.proofs.given.has_no_line.Lts as lts
 
 zeros : (a b d m : ℕ) → m ≡ a + 256 * b + 65536 * d → eqb m 0 ≡ eqb a 0 && eqb b 0 && eqb d 0
 zeros zero zero zero m e = eq-eqb m 0 (omega arith)

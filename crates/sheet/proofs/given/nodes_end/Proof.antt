@@ -16,9 +16,6 @@ use native.Mathlib.Nat.{eq-or-lt-of-le}
 use native.Mathlib.Omega.{arith}
 use Rattle.sheet.proofs.given.nodes_end.Statement.{statement}
 use Rattle.sheet.proofs.given.nodes_end.Tie as tie
-use Rattle.sheet.proofs.given.nodes_end.Reads as reads
-use Rattle.sheet.proofs.given.nodes_end.Lts as lts
-use Rattle.sheet.proofs.given.has_no_line.Reads as has-no-line-reads
 
 abbrev Inv-loop : tie.InvT-loop
 Inv-loop numbers n all₀ i₀ all i = (n ≤ i) × (nodeLimit < i → all ≡ true) × ((t : Table) → Packed t numbers → all ≡ each (fromOn (λ k. isNoLine (getD (t .nodes) k noLine)) n) i)
