@@ -64,7 +64,7 @@ pub plains-end : (xs : List NodeLine) (i : ℕ) (p : List Bool) → length xs �
 unfolding plainFrom
 plains-end xs i p h = rw (drop-of-length-le xs h)
 
-from-length : (xs : List NodeLine) (i : ℕ) (p : List Bool) → length (plainFrom xs i p) ≡ length p
+pub from-length : (xs : List NodeLine) (i : ℕ) (p : List Bool) → length (plainFrom xs i p) ≡ length p
 unfolding plainFrom
 from-length [] i p = refl
 from-length (x ∷ xs) i p = from-length xs (i + 1) (set p i (plainNode p x)) ∙ length-set p i (plainNode p x)

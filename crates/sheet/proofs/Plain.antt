@@ -17,7 +17,7 @@ use Rattle.sheet.proofs.Bools.{both}
 use Rattle.sheet.proofs.Each.{each-at}
 
 -- whether node k is plain goes by the nodes up to k alone
-from-append : (xs ys : List NodeLine) (i : ℕ) (p : List Bool) → plainFrom (xs ++ ys) i p ≡ plainFrom ys (i + length xs) (plainFrom xs i p)
+pub from-append : (xs ys : List NodeLine) (i : ℕ) (p : List Bool) → plainFrom (xs ++ ys) i p ≡ plainFrom ys (i + length xs) (plainFrom xs i p)
 unfolding plainFrom
 from-append [] ys i p = ap (λ (n : ℕ). plainFrom ys n p) e
   where
