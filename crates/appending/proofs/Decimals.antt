@@ -52,6 +52,10 @@ decimal-more n h =
     digits-more n n h
     ∙ ap (λ (l : List ℕ). l ++ (digit (n % 10) ∷ [])) (same-digits n (suc (n / 10)) (n / 10) (omega arith) (omega arith))
 
+-- a number of two digits
+pub decimal-two : (n : ℕ) → 10 ≤ n → n < 100 → decimal n ≡ digit (n / 10) ∷ digit (n % 10) ∷ []
+decimal-two n l h = decimal-more n l ∙ ap (λ (d : List ℕ). d ++ (digit (n % 10) ∷ [])) (decimal-one (n / 10) (omega (arith, div-add-mod' n 10)))
+
 -- a number below 10 ^ k has at most k digits
 pub decimal-length : (k n : ℕ) → n < 10 ^ suc k → length (decimal n) ≤ suc k
 decimal-length zero n h = omega (arith, ap length (decimal-one n h))

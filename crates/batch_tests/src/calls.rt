@@ -41,7 +41,7 @@ fn list_in(line: &[u8], words: &[u32], lengths: &[u16], verdicts: &mut [u64], he
 // The table of the case's sheet.
 fn table(line: &[u8]) -> Table {
     let mut bytes = io::buffer();
-    let n = text_of(line, 1, &mut bytes);
+    let n = cases::text_of(line, 1, &mut bytes);
     sheet::read_sheet(&bytes[..n]).table
 }
 
@@ -50,7 +50,7 @@ fn words_of(line: &[u8], words: &mut [u32]) -> usize
     ensures { λ r. ⌜ Counts r (now (words .exit)) ⌝ }
 {
     let mut bytes = io::buffer();
-    let n = text_of(line, 2, &mut bytes);
+    let n = cases::text_of(line, 2, &mut bytes);
     joblog::read_log(&bytes[..n], words);
     least(number(line, 3), words.len())
 }
@@ -60,7 +60,7 @@ fn lengths_of(line: &[u8], lengths: &mut [u16]) -> usize
     ensures { λ r. ⌜ Counts r (now (lengths .exit)) ⌝ }
 {
     let mut bytes = io::buffer();
-    let n = text_of(line, 4, &mut bytes);
+    let n = cases::text_of(line, 4, &mut bytes);
     put_lengths(&bytes[..n], lengths)
 }
 
@@ -79,13 +79,6 @@ fn put_lengths(lines: &[u8], lengths: &mut [u16]) -> usize
         k += 1;
     }
     k
-}
-
-// Puts the text of a field at the front of a buffer, and says how many bytes that are.
-fn text_of(line: &[u8], k: usize, bytes: &mut [u8]) -> usize
-    ensures { λ r. ⌜ Counts r (now (bytes .exit)) ⌝ }
-{
-    cases::put_text(cases::field(line, k), bytes)
 }
 
 // The number in a field.

@@ -2,6 +2,7 @@
 ghost use mathlib.Core.Path.{_≡_};
 ghost use Prim.Native.Nat.{_≤_, _<_, min};
 ghost use lib.ListN.{length, getD};
+ghost use Rattle.io.specs.Counts.{Counts};
 ghost use Rattle.cases.specs.Cases.{bar, Past, partOf, numberOf, digitOf, plainOf, byteAt, bytesOf, PutText, written};
 
 // The place after the part that starts at `at` and after the `sep` that ends it; the end where none does.
@@ -57,6 +58,13 @@ pub fn put_text(field: &[u8], out: &mut [u8]) -> usize
     let n = least(bytes(field), out.len());
     fill(head, piece, n, out);
     n
+}
+
+// Puts the text of a line's field at the front of a buffer, and says how many bytes that are.
+pub fn text_of(line: &[u8], k: usize, out: &mut [u8]) -> usize
+    ensures { λ r. ⌜ Counts r (now (out .exit)) ⌝ }
+{
+    put_text(field(line, k), out)
 }
 
 // The part of a text that k bytes `sep` stand before.

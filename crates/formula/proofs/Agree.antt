@@ -14,7 +14,7 @@ use Rattle.aldlf.specs.Meaning.{Values, Moves, Taken, Walk, Accepted, SomeWalk,
 use Rattle.formula.specs.Formula.{Formula, always, fact, neg, both, either, some, every, Path, step, seq, alt, many, Sat, Runs}
 use Rattle.formula.specs.Numbering.{under, within, own, entry, exit, edges}
 use Rattle.formula.proofs.Laws.{some-at, at-some}
-use Rattle.formula.proofs.Counts.{automatonCount, automatonCountIn, edgeCount, edgeCountIn}
+use Rattle.formula.specs.Counts.{automatonCount, automatonCountIn, edgeCount, edgeCountIn}
 use Rattle.formula.proofs.Graph.{own-length, edgeFrom, Passes, Trip, stop, go, Goes, NodesRight, Go, runs-iff}
 
 -- automaton m of the sheet, whose first edge is e, is the path's: its formulas' first node is k

@@ -5,16 +5,18 @@ use mathlib.Core.Path.{_≡_, refl, ap, sym, subst, _∙_}
 use mathlib.Core.List.{List, [], _∷_, _++_}
 use mathlib.Core.Logic.{_⊎_, inl, inr}
 use mathlib.Core.Bool.{Bool, true, false, cond}
-use lib.Dec.{eqb, ltb}
+use lib.Dec.{eqb}
 use lib.ListN.{length, length-append}
-use borrow.Author.Tests.{eq-eqb, ne-eqb, le-leb, ltb-true, ltb-false}
+use borrow.Author.Tests.{eq-eqb, ne-eqb, le-leb}
 use Rattle.aldlf.specs.Constants.{factLimit}
 use Rattle.aldlf.specs.Sheet.{Dir, ahead, back, stay}
 use Rattle.text.specs.Text.{isDigit}
 use Rattle.sheet.proofs.Bools.{split}
+use Rattle.appending.specs.Appending.{decimal}
+use Rattle.appending.proofs.Decimals.{decimal-one, decimal-two}
 use Rattle.formula.specs.Signs.{signNot, signAnd, signOr, signSeq, signAlt, signStar, signBack, signTest, roundOpen, roundClose, curlyOpen, curlyClose, angleOpen, angleClose, squareOpen, squareClose, signFact, wordTrue}
 use Rattle.formula.specs.Formula.{Formula, always, fact, neg, both, either, some, every, Path, step, seq, alt, many}
-use Rattle.formula.specs.Grammar.{factDigits, Disjunction}
+use Rattle.formula.specs.Grammar.{Disjunction}
 use Rattle.formula.specs.Parse.{Got, ok, Held, nothing, held, joined, Prefix, bang, angle, square, wrap, isPrefix, isPair, byte, closed, chained, chain, factAt, trueAt, stepped, starredFrom, starred, atomAt, prefixAt, operandFrom, operandAt, pieceAt, starredAt, inner, formulaAt}
 use Rattle.formula.proofs.Bytes.{byte-out, Slice, head-of, head-in, tail-of, split-left, split-right, slice-all}
 use Rattle.formula.proofs.Induction.{Claims, Keeps, on-disjunction}
@@ -355,12 +357,15 @@ module _ (text : List ℕ) where
       let v : (48 + f / 10 - 48) * 10 + (48 + f % 10 - 48) ≡ f = omega arith in
       record { atom-on = omega arith; atom-in = head-in text signFact _ at to s; atom-first = rw h refl; atom-is = rw (h, k, is-digit (48 + f / 10) (omega arith) (omega arith), k′, fact-pair f l g, e, v) refl }
 
-  read-fact : (f : ℕ) → f < factLimit → Where NoDigit AtomRead (fact f) (signFact ∷ factDigits f)
-  read-fact f l = cases (ltb f 10) refl
+  read-fact : (f : ℕ) → f < factLimit → Where NoDigit AtomRead (fact f) (signFact ∷ decimal f)
+  read-fact f l = cases (split 10 f)
     where
-      cases : (t : Bool) → ltb f 10 ≡ t → Where NoDigit AtomRead (fact f) (signFact ∷ cond t ((48 + f) ∷ []) ((48 + f / 10) ∷ (48 + f % 10) ∷ []))
-      cases true e = fact-one f (ltb-true f 10 e)
-      cases false e = fact-two f l (ltb-false f 10 e)
+      Digits : List ℕ → Type 0
+      Digits u = Where NoDigit AtomRead (fact f) (signFact ∷ u)
+
+      cases : (10 ≤ f) ⊎ (f < 10) → Digits (decimal f)
+      cases (inr h) = subst Digits (sym (decimal-one f h)) (fact-one f h)
+      cases (inl h) = subst Digits (sym (decimal-two f h (omega arith))) (fact-two f l h)
 
   -- pieces
   read-ahead : (a : Formula) (u : List ℕ) → Where NoDigit Formulas a u → Where NoStep PieceRead (step ahead a) (curlyOpen ∷ (u ++ (curlyClose ∷ [])))

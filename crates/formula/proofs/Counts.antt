@@ -1,5 +1,5 @@
 -- What making a formula adds to a table's counts, by induction over the formula; and so what it is to be within the limits.
-use Prim.Native.Nat.{ℕ, suc, _+_, _≤_}
+use Prim.Native.Nat.{ℕ, suc, _+_}
 use native.Mathlib.Omega.{arith}
 use mathlib.Core.Path.{_≡_, refl}
 use mathlib.Core.Logic.{_↔_}
@@ -13,42 +13,7 @@ use Rattle.sheet.proofs.Bools as bools
 use Rattle.formula.specs.Formula.{Formula, always, fact, neg, both, either, some, every, Path, step, seq, alt, many}
 use Rattle.formula.specs.Numbering.{under, within, own, withLetter, withPath, made, madeIn, firstTable, tableOf}
 use Rattle.formula.specs.Outcome.{widest, fitsSheet}
-
-abbrev mutual
-  -- how many automata a formula takes: one for each path mark
-  pub automatonCount : Formula → ℕ
-  automatonCount always = 0
-  automatonCount (fact f) = 0
-  automatonCount (neg a) = automatonCount a
-  automatonCount (both a b) = automatonCount a + automatonCount b
-  automatonCount (either a b) = automatonCount a + automatonCount b
-  automatonCount (some p a) = suc (automatonCountIn p) + automatonCount a
-  automatonCount (every p a) = suc (automatonCountIn p) + automatonCount a
-
-  -- how many the formulas of a path take
-  pub automatonCountIn : Path → ℕ
-  automatonCountIn (step d a) = automatonCount a
-  automatonCountIn (seq p q) = automatonCountIn p + automatonCountIn q
-  automatonCountIn (alt p q) = automatonCountIn p + automatonCountIn q
-  automatonCountIn (many p) = automatonCountIn p
-
-abbrev mutual
-  -- how many edges a formula takes
-  pub edgeCount : Formula → ℕ
-  edgeCount always = 0
-  edgeCount (fact f) = 0
-  edgeCount (neg a) = edgeCount a
-  edgeCount (both a b) = edgeCount a + edgeCount b
-  edgeCount (either a b) = edgeCount a + edgeCount b
-  edgeCount (some p a) = edgeCountIn p + own p + edgeCount a
-  edgeCount (every p a) = edgeCountIn p + own p + edgeCount a
-
-  -- how many the formulas of a path take
-  pub edgeCountIn : Path → ℕ
-  edgeCountIn (step d a) = edgeCount a
-  edgeCountIn (seq p q) = edgeCountIn p + edgeCountIn q
-  edgeCountIn (alt p q) = edgeCountIn p + edgeCountIn q
-  edgeCountIn (many p) = edgeCountIn p
+use Rattle.formula.specs.Counts.{automatonCount, automatonCountIn, edgeCount, edgeCountIn, Within}
 
 -- u has so many nodes, automata and edges more than t
 pub record Adds (n m e : ℕ) (t u : Table) : Type 0 where
@@ -87,13 +52,6 @@ mutual
   in-adds (seq p q) t = adds-then (in-adds p t) (in-adds q (madeIn p t))
   in-adds (alt p q) t = adds-then (in-adds p t) (in-adds q (madeIn p t))
   in-adds (many p) t = in-adds p t
-
--- what it is to be within the sheet's limits: node 0 and the formula's own node count too
-pub record Within (a : Formula) : Type 0 where
-  pub nodes : suc (suc (under a)) ≤ nodeLimit
-  pub automata : automatonCount a ≤ automatonLimit
-  pub edges : edgeCount a ≤ edgeLimit
-  pub widths : widest a ≤ stateLimit
 
 all-four : (x y z w : Bool) → (x && y && z && w) ≡ true → (x ≡ true) × (y ≡ true) × (z ≡ true) × (w ≡ true)
 all-four x y z w e =

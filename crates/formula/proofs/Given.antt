@@ -59,7 +59,7 @@ keeps =
       brackets = λ p u h. h;
     }
 
-pub writes-facts : (a : Formula) (text : List ℕ) → Writes a text → FactsIn a
+writes-facts : (a : Formula) (text : List ℕ) → Writes a text → FactsIn a
 writes-facts a text t = on-disjunction claims keeps t
 
 -- Question 10, as the sheet asks it
@@ -112,7 +112,7 @@ table-good a f e fits =
     let c = made-adds a firstTable in
     good-made a firstTable false first-good (omega arith) f e (w .widths) (omega arith)
 
-pub facts-given : (a : Formula) → FactsIn a → stepsPlain a ≡ true → fitsSheet a ≡ true → wellFormed (tableOf a) ≡ true
+facts-given : (a : Formula) → FactsIn a → stepsPlain a ≡ true → fitsSheet a ≡ true → wellFormed (tableOf a) ≡ true
 facts-given a f e fits =
     let g = table-good a f e fits in
     let c = table-adds a in

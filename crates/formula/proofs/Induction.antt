@@ -4,9 +4,10 @@ use mathlib.Core.Path.{_≡_, sym, subst}
 use mathlib.Core.List.{List, [], _∷_, _++_}
 use Rattle.aldlf.specs.Constants.{factLimit}
 use Rattle.aldlf.specs.Sheet.{ahead, back, stay}
+use Rattle.appending.specs.Appending.{decimal}
 use Rattle.formula.specs.Signs.{signNot, signAnd, signOr, signSeq, signAlt, signStar, signBack, signTest, roundOpen, roundClose, curlyOpen, curlyClose, angleOpen, angleClose, squareOpen, squareClose, signFact, wordTrue}
 use Rattle.formula.specs.Formula.{Formula, always, fact, neg, both, either, some, every, Path, step, seq, alt, many}
-use Rattle.formula.specs.Grammar.{factDigits, Disjunction, Conjunction, Operand, Atom, Choice, Sequence, Starred, Piece, d-one, d-more, c-one, c-more, o-atom, o-not, o-some, o-every, a-true, a-fact, a-group, h-one, h-more, s-one, s-more, r-none, r-star, p-ahead, p-back, p-test, p-group}
+use Rattle.formula.specs.Grammar.{Disjunction, Conjunction, Operand, Atom, Choice, Sequence, Starred, Piece, d-one, d-more, c-one, c-more, o-atom, o-not, o-some, o-every, a-true, a-fact, a-group, h-one, h-more, s-one, s-more, r-none, r-star, p-ahead, p-back, p-test, p-group}
 
 -- a claim for each kind of text
 pub record Claims : Type 1 where
@@ -34,7 +35,7 @@ pub record Keeps (Q : Claims) : Type 0 where
   pub somes : (p : Path) (a : Formula) (u w : List ℕ) → Q .choice p u → Q .operand a w → Q .operand (some p a) (angleOpen ∷ (u ++ (angleClose ∷ w)))
   pub everys : (p : Path) (a : Formula) (u w : List ℕ) → Q .choice p u → Q .operand a w → Q .operand (every p a) (squareOpen ∷ (u ++ (squareClose ∷ w)))
   pub trues : Q .atom always wordTrue
-  pub facts : (f : ℕ) → f < factLimit → Q .atom (fact f) (signFact ∷ factDigits f)
+  pub facts : (f : ℕ) → f < factLimit → Q .atom (fact f) (signFact ∷ decimal f)
   pub groups : (a : Formula) (u : List ℕ) → Q .disjunction a u → Q .atom a (roundOpen ∷ (u ++ (roundClose ∷ [])))
   pub h-first : (p : Path) (u : List ℕ) → Q .sequence p u → Q .choice p u
   pub h-next : (p q : Path) (u w : List ℕ) → Q .choice p u → Q .sequence q w → Q .choice (alt p q) (u ++ (signAlt ∷ w))

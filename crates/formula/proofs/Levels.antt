@@ -3,14 +3,16 @@ use Prim.Native.Nat.{ℕ, zero, suc, _+_, _-_, _/_, _%_, _≤_, _<_}
 use native.Mathlib.Omega.{arith}
 use mathlib.Core.Path.{_≡_, refl, ap, sym, subst, _∙_}
 use mathlib.Core.List.{List, [], _∷_, _++_}
-use mathlib.Core.Bool.{Bool, true, false, cond}
-use lib.Dec.{ltb}
+use mathlib.Core.Logic.{_⊎_, inl, inr}
 use lib.ListN.{length, take}
-use borrow.Author.Tests.{ne-eqb, ltb-true}
+use borrow.Author.Tests.{ne-eqb}
 use Rattle.aldlf.specs.Constants.{factLimit}
+use Rattle.sheet.proofs.Bools.{split}
+use Rattle.appending.specs.Appending.{decimal}
+use Rattle.appending.proofs.Decimals.{decimal-one, decimal-two}
 use Rattle.formula.specs.Signs.{signNot, signAnd, signOr, signSeq, signAlt, signStar, signBack, signTest, roundOpen, roundClose, curlyOpen, curlyClose, angleOpen, angleClose, squareOpen, squareClose, signFact, wordTrue}
 use Rattle.formula.specs.Formula.{Formula, Path}
-use Rattle.formula.specs.Grammar.{factDigits, Disjunction, Conjunction, Choice, Sequence, Starred, nowOpen, openAfter}
+use Rattle.formula.specs.Grammar.{Disjunction, Conjunction, Choice, Sequence, Starred, nowOpen, openAfter}
 use Rattle.formula.proofs.Induction.{Claims, alike, Keeps, on-disjunction, on-conjunction, on-choice, on-sequence, on-starred}
 
 -- fewer than n marks are open before the text, after it, and after each byte of it
@@ -140,14 +142,15 @@ quiet-digit b l h k =
 pub down : (k : ℕ) → suc k - 1 ≡ k
 down k = omega arith
 
-level-digits : (f : ℕ) → f < factLimit → Level (factDigits f)
-level-digits f l = cases (ltb f 10) refl
+level-digits : (f : ℕ) → f < factLimit → Level (decimal f)
+level-digits f l = cases (split 10 f)
   where
-    cases : (t : Bool) → ltb f 10 ≡ t → Level (cond t ((48 + f) ∷ []) ((48 + f / 10) ∷ (48 + f % 10) ∷ []))
-    cases true e = let h = ltb-true f 10 e in level-quiet (48 + f) [] (quiet-digit (48 + f) (omega arith) (omega arith)) level-none
-    cases false e =
-        level-quiet (48 + f / 10) ((48 + f % 10) ∷ []) (quiet-digit (48 + f / 10) (omega arith) (omega arith))
-        (level-quiet (48 + f % 10) [] (quiet-digit (48 + f % 10) (omega arith) (omega arith)) level-none)
+    cases : (10 ≤ f) ⊎ (f < 10) → Level (decimal f)
+    cases (inr h) = subst Level (sym (decimal-one f h)) (level-quiet (48 + f) [] (quiet-digit (48 + f) (omega arith) (omega arith)) level-none)
+    cases (inl h) =
+        subst Level (sym (decimal-two f h (omega arith)))
+        (level-quiet (48 + f / 10) ((48 + f % 10) ∷ []) (quiet-digit (48 + f / 10) (omega arith) (omega arith))
+        (level-quiet (48 + f % 10) [] (quiet-digit (48 + f % 10) (omega arith) (omega arith)) level-none))
 
 level-true : Level wordTrue
 unfolding openAfter
@@ -169,7 +172,7 @@ keeps =
       somes = λ p a u w h t. level-marked angleOpen angleClose u w (λ k. refl) down h t;
       everys = λ p a u w h t. level-marked squareOpen squareClose u w (λ k. refl) down h t;
       trues = level-true;
-      facts = λ f l. level-quiet signFact (factDigits f) (λ k. refl) (level-digits f l);
+      facts = λ f l. level-quiet signFact (decimal f) (λ k. refl) (level-digits f l);
       groups = λ a u h. level-marked roundOpen roundClose u [] (λ k. refl) down h level-none;
       h-first = λ p u h. h;
       h-next = λ p q u w h t. level-append u (signAlt ∷ w) h (level-quiet signAlt w (λ k. refl) t);

@@ -169,7 +169,7 @@ module _ (text : List ℕ) where
         short = λ q. absurd (n q);
       }
 
-  pub bad-right : (x : ℕ) → parsed text ≡ bad x → NoFormulaAt text x
+  bad-right : (x : ℕ) → parsed text ≡ bad x → NoFormulaAt text x
   unfolding parsed
   bad-right x e = cases (whole-bad text (formulaAt text depthLimit 0) x e)
     where
@@ -203,7 +203,7 @@ module _ (text : List ℕ) where
         deeper = ap (λ (z : List ℕ). openAfter z 0) k ∙ op 0;
       })
 
-  pub deep-right : (x : ℕ) → parsed text ≡ deep x → TooDeepAt text x
+  deep-right : (x : ℕ) → parsed text ≡ deep x → TooDeepAt text x
   unfolding parsed
   deep-right x e = from-deep (formulaAt text depthLimit 0) x (right-formula text depthLimit 0) (whole-deep text (formulaAt text depthLimit 0) x e)
 

@@ -16,7 +16,8 @@ use Rattle.formula.specs.Formula.{Formula, always, fact, neg, both, eith
 use Rattle.formula.specs.Numbering.{under, within, own, exit, edges, withLetter, newest, automatonOf, withPath, made, madeIn, firstTable}
 use Rattle.formula.proofs.Laws.{sets-before, sets-at, bit-power}
 use Rattle.formula.proofs.Making.{Makes, none, letter, path, makes, makes-in, Small, Sized, sized}
-use Rattle.formula.proofs.Counts.{automatonCount, automatonCountIn, edgeCount, edgeCountIn, made-adds, in-adds}
+use Rattle.formula.specs.Counts.{automatonCount, automatonCountIn, edgeCount, edgeCountIn}
+use Rattle.formula.proofs.Counts.{made-adds, in-adds}
 use Rattle.formula.proofs.Graph.{own-length, edgeFrom}
 use Rattle.formula.proofs.Agree.{IsPath, Placed, PlacedIn}
 

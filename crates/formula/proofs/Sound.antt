@@ -6,14 +6,16 @@ use mathlib.Core.List.{List, [], _∷_, _++_, append-assoc, append-nil}
 use mathlib.Core.Bool.{Bool, true, false, cond, _&&_, _||_}
 use lib.Dec.{eqb, leb}
 use lib.ListN.{length}
-use borrow.Author.Tests.{eqb-true, leb-true, lt-ltb, le-ltb}
+use borrow.Author.Tests.{eqb-true, leb-true}
 use Rattle.aldlf.specs.Constants.{factLimit}
 use Rattle.aldlf.specs.Sheet.{ahead}
 use Rattle.text.specs.Text.{isDigit}
 use Rattle.sheet.proofs.Bools as bools
+use Rattle.appending.specs.Appending.{decimal}
+use Rattle.appending.proofs.Decimals.{decimal-one, decimal-two}
 use Rattle.formula.specs.Signs.{signNot, signAnd, signOr, signSeq, signAlt, signStar, signBack, signTest, roundOpen, roundClose, curlyOpen, curlyClose, angleOpen, angleClose, squareOpen, squareClose, signFact, wordTrue}
 use Rattle.formula.specs.Formula.{Formula, always, fact, neg, both, either, some, every, Path, step, seq, alt, many}
-use Rattle.formula.specs.Grammar.{factDigits, Disjunction, Conjunction, Operand, Atom, Choice, Sequence, Starred, Piece, d-one, d-more, c-one, c-more, o-atom, o-not, o-some, o-every, a-true, a-fact, a-group, h-one, h-more, s-one, s-more, r-none, r-star, p-ahead, p-back, p-test, p-group, openAfter}
+use Rattle.formula.specs.Grammar.{Disjunction, Conjunction, Operand, Atom, Choice, Sequence, Starred, Piece, d-one, d-more, c-one, c-more, o-atom, o-not, o-some, o-every, a-true, a-fact, a-group, h-one, h-more, s-one, s-more, r-none, r-star, p-ahead, p-back, p-test, p-group, openAfter}
 use Rattle.formula.specs.Parse.{Got, ok, bad, deep, Inner, Held, nothing, held, joined, Prefix, bang, angle, square, wrap, mapGot, isPrefix, isPair, prefixed, byte, closed, chained, chain, factAt, trueAt, stepped, starredFrom, starred, atomAt, prefixAt, operandFrom, operandAt, pieceAt, starredAt, outside, inner, formulaAt}
 use Rattle.formula.proofs.Bytes.{Slice, slice-none, slice-one, slice-cons, slice-append}
 use Rattle.formula.proofs.Levels.{UnderBefore, Level, Low, Quiet, Opens, Closes, open-append, open-cons, low-none, low-append, before-behind, low-quiet, low-opens, before-opens, low-marked, level-none, level-append, level-quiet, level-marked, quiet-digit, down, d-level, c-level, h-level, s-level, r-level}
@@ -39,17 +41,17 @@ pair-of b c e =
     go false false p q e d = absurd (let z : _≡_ {A = ℕ} 0 1 = cc in omega arith)
 
 -- their digits
-digits-two : (b c : ℕ) → 48 ≤ c → c ≤ 57 → 49 ≤ b → b ≤ 57 → factDigits ((b - 48) * 10 + (c - 48)) ≡ b ∷ c ∷ []
+digits-two : (b c : ℕ) → 48 ≤ c → c ≤ 57 → 49 ≤ b → b ≤ 57 → decimal ((b - 48) * 10 + (c - 48)) ≡ b ∷ c ∷ []
 digits-two b c l h m n =
     let f = (b - 48) * 10 + (c - 48) in
     let p : 48 + f / 10 ≡ b = omega arith in
     let q : 48 + f % 10 ≡ c = omega arith in
-    rw (le-ltb f 10 (omega arith), p, q) refl
+    decimal-two f (omega arith) (omega arith) ∙ rw (p, q) refl
 
-digits-one : (b : ℕ) → 48 ≤ b → b ≤ 57 → factDigits (b - 48) ≡ b ∷ []
+digits-one : (b : ℕ) → 48 ≤ b → b ≤ 57 → decimal (b - 48) ≡ b ∷ []
 digits-one b l h =
     let p : 48 + (b - 48) ≡ b = omega arith in
-    rw (lt-ltb (b - 48) 10 (omega arith), p) refl
+    decimal-one (b - 48) (omega arith) ∙ rw p refl
 
 -- a prefix's text
 data PrefixText : Prefix → List ℕ → Type 0 where
@@ -71,8 +73,11 @@ rejoin : (q u v w : List ℕ) → (q ++ (u ++ v)) ++ w ≡ (q ++ u) ++ (v ++ w)
 rejoin q u v w = simp append-assoc
 
 -- a formula and a step that can always be written
+some-atom : Atom (fact 0) (signFact ∷ 48 ∷ [])
+some-atom = a-fact (ap (λ (z : List ℕ). signFact ∷ z) (sym (decimal-one 0 (omega arith)))) (omega arith)
+
 some-operand : Operand (fact 0) (signFact ∷ 48 ∷ [])
-some-operand = o-atom (a-fact {f = 0} refl (omega arith))
+some-operand = o-atom some-atom
 
 some-formula : Disjunction (fact 0) (signFact ∷ 48 ∷ [])
 some-formula = d-one (c-one some-operand)
@@ -248,7 +253,7 @@ module _ (text : List ℕ) where
       reads (signFact ∷ b ∷ []) (slice-cons text at signFact _ _ e (omega arith) (slice-one text (at + 1) b refl (omega arith)))
       (a-fact (ap (λ (z : List ℕ). signFact ∷ z) (sym (digits-one b (d .0) (d .1)))) (omega arith))
       (low-quiet n signFact _ (λ k. refl) (low-quiet n b [] (quiet-digit b (d .0) (d .1)) (low-none n)))))
-      (λ e₁. goes-on (signFact ∷ []) (48 ∷ []) (fact 0) (slice-one text at signFact e (omega arith)) (a-fact refl (omega arith)) (low-quiet n signFact [] (λ k. refl) (low-none n)))
+      (λ e₁. goes-on (signFact ∷ []) (48 ∷ []) (fact 0) (slice-one text at signFact e (omega arith)) some-atom (low-quiet n signFact [] (λ k. refl) (low-none n)))
 
   -- what is right behind a mark
   abbrev Rights : Inner → ℕ → Type 0
@@ -262,7 +267,7 @@ module _ (text : List ℕ) where
         (λ e₁. right-if (eqb (byte text at) signFact) (λ e. right-fact at n (eqb-true (byte text at) signFact e))
         (λ e₂. right-if (eqb (byte text at) roundOpen)
         (λ e. right-as (λ a u z. a-group (z .1) (z .2)) (right-closed Disjunction at roundOpen roundClose n (I .formula (at + 1)) (λ k. refl) down (omega arith) (omega arith) d-level (eqb-true (byte text at) roundOpen e) (r .0 (at + 1))))
-        (λ e₃. goes-on [] (signFact ∷ 48 ∷ []) (fact 0) (slice-none text at) (a-fact refl (omega arith)) (low-none n))))
+        (λ e₃. goes-on [] (signFact ∷ 48 ∷ []) (fact 0) (slice-none text at) some-atom (low-none n))))
 
     prefix-last : (b : ℕ) → isPrefix b ≡ true → eqb b signNot ≡ false → eqb b angleOpen ≡ false → b ≡ squareOpen
     prefix-last b e p q = eqb-true b squareOpen (rw (p, q) at e)

@@ -1,20 +1,13 @@
--- Question 10 on a path's edges, by induction over the path: each state stands on an edge. And a path of few states has few edges.
-use Prim.Native.Nat.{ℕ, _+_, _*_, _≤_, _<_}
+-- Question 10 on a path's edges, by induction over the path: each state stands on an edge.
+use Prim.Native.Nat.{ℕ, _+_, _≤_, _<_}
 use native.Mathlib.Omega.{arith}
 use mathlib.Core.Path.{_≡_, sym}
 use mathlib.Core.Logic.{_⊎_, inl, inr, ⊎-elim}
 use Rattle.aldlf.specs.declared.Edge.{Edge}
 use Rattle.sheet.proofs.Bools.{same, split}
 use Rattle.formula.specs.Formula.{Path, step, seq, alt, many}
-use Rattle.formula.specs.Numbering.{within, states, own, edges}
+use Rattle.formula.specs.Numbering.{within, states, edges}
 use Rattle.formula.proofs.Laws.{Some, some-left, some-right}
-
--- a path of at most 16 states has at most 29 edges: room for 32 is enough
-pub own-few : (p : Path) → own p + 3 ≤ 2 * states p
-own-few (step d a) = omega arith
-own-few (seq p q) = omega (arith, own-few p, own-few q)
-own-few (alt p q) = omega (arith, own-few p, own-few q)
-own-few (many p) = omega (arith, own-few p)
 
 -- the edge stands on state s
 abbrev pub OnEdge : ℕ → Edge → Type 0

@@ -1,19 +1,16 @@
 -- How formulas and paths are written: which texts write which formula, which texts can go on to one, and how many marks a text has open.
-use Prim.Native.Nat.{ℕ, suc, _+_, _-_, _/_, _%_, _≤_, _<_}
+use Prim.Native.Nat.{ℕ, suc, _-_, _≤_, _<_}
 use mathlib.Core.Path.{_≡_}
 use mathlib.Core.List.{List, [], _∷_, _++_}
 use mathlib.Core.Bool.{Bool, cond, _||_}
-use lib.Dec.{eqb, ltb}
+use lib.Dec.{eqb}
 use lib.ListN.{length, take}
 use Rattle.aldlf.specs.Constants.{factLimit}
 use Rattle.aldlf.specs.Sheet.{ahead, back, stay}
+use Rattle.appending.specs.Appending.{decimal}
 use Rattle.formula.specs.Limits.{depthLimit}
 use Rattle.formula.specs.Signs.{signNot, signAnd, signOr, signSeq, signAlt, signStar, signBack, signTest, roundOpen, roundClose, curlyOpen, curlyClose, angleOpen, angleClose, squareOpen, squareClose, signFact, wordTrue}
 use Rattle.formula.specs.Formula.{Formula, always, fact, neg, both, either, some, every, Path, step, seq, alt, many}
-
--- A fact's number in one or two digits, without padding.
-abbrev pub factDigits : ℕ → List ℕ
-factDigits f = cond (ltb f 10) ((48 + f) ∷ []) ((48 + f / 10) ∷ (48 + f % 10) ∷ [])
 
 mutual
   -- A formula: conjunctions parted by `|`, grouped to the left.
@@ -33,10 +30,10 @@ mutual
     o-some : {p : Path} {a : Formula} {u w v : List ℕ} → v ≡ angleOpen ∷ (u ++ (angleClose ∷ w)) → Choice p u → Operand a w → Operand (some p a) v
     o-every : {p : Path} {a : Formula} {u w v : List ℕ} → v ≡ squareOpen ∷ (u ++ (squareClose ∷ w)) → Choice p u → Operand a w → Operand (every p a) v
 
-  -- `true`, `f` and a fact's number, or a formula in round brackets.
+  -- `true`, `f` and a fact's number in decimal without leading zeros, or a formula in round brackets.
   pub data Atom : Formula → List ℕ → Type 0 where
     a-true : {v : List ℕ} → v ≡ wordTrue → Atom always v
-    a-fact : {f : ℕ} {v : List ℕ} → v ≡ signFact ∷ factDigits f → f < factLimit → Atom (fact f) v
+    a-fact : {f : ℕ} {v : List ℕ} → v ≡ signFact ∷ decimal f → f < factLimit → Atom (fact f) v
     a-group : {a : Formula} {u v : List ℕ} → v ≡ roundOpen ∷ (u ++ (roundClose ∷ [])) → Disjunction a u → Atom a v
 
   -- A path: sequences parted by `+`, grouped to the left.

@@ -5,4 +5,5 @@ pub mod Grammar
 pub mod Parse
 pub mod Numbering
 pub mod Outcome
+pub mod Counts
 pub mod Answer

@@ -12,7 +12,7 @@ use Rattle.aldlf.specs.Constants.{letterT, letterP, letterN, letterA, letterO, 
 use Rattle.aldlf.specs.Sheet.{T, F, P, lineOf}
 use Rattle.aldlf.specs.declared.NodeLine.{NodeLine}
 use Rattle.appending.specs.Appending.{decimal}
-use Rattle.appending.proofs.Decimals.{decimal-one, decimal-more}
+use Rattle.appending.proofs.Decimals.{decimal-one, decimal-two, decimal-more}
 use Rattle.printing.specs.Print.{trueText, falseText, marked, lineText}
 use Rattle.printing.specs.Pieces.{leafText, prefixText, operandOf, operatorOf}
 
@@ -74,17 +74,17 @@ module _ (x : NodeLine) where
 pub digits-one : (n : ℕ) → n < 10 → 1 ≡ length (decimal n)
 digits-one n h = sym (ap length (decimal-one n h))
 
-more : (n : ℕ) → 10 ≤ n → length (decimal n) ≡ length (decimal (n / 10)) + 1
-more n h = ap length (decimal-more n h) ∙ length-append (decimal (n / 10)) _
-
 pub digits-two : (n : ℕ) → 10 ≤ n → n < 100 → 2 ≡ length (decimal n)
-digits-two n l h = let q = digits-one (n / 10) (omega (arith, div-add-mod' n 10)) in omega (arith, more n l, q)
+digits-two n l h = sym (ap length (decimal-two n l h))
 
 pub digits-three : (n : ℕ) → 100 ≤ n → n < 1000 → 3 ≡ length (decimal n)
-digits-three n l h = let q = digits-two (n / 10) (omega (arith, div-add-mod' n 10)) (omega (arith, div-add-mod' n 10)) in omega (arith, more n (omega arith), q)
+digits-three n l h =
+    let q = digits-two (n / 10) (omega (arith, div-add-mod' n 10)) (omega (arith, div-add-mod' n 10)) in
+    let e = ap length (decimal-more n (omega arith)) ∙ length-append (decimal (n / 10)) _ in
+    omega (arith, e, q)
 
 -- how many bytes a marked automaton has
-pub marked-length : (left m right : ℕ) → length (marked left m right) ≡ length (decimal m) + 3
+marked-length : (left m right : ℕ) → length (marked left m right) ≡ length (decimal m) + 3
 marked-length left m right = let e = length-append (decimal m) (right ∷ []) in omega arith
 
 -- how many bytes stand before the node of a D or B

@@ -2,7 +2,6 @@
 // document 02 gives, worked by hand: the number, the length, and all places that were lent. Before the call they hold `.`, which
 // stands in no text.
 use aldlf::Table;
-ghost use Rattle.io.specs.Counts.{Counts};
 
 // No case lends more places.
 const MOST: usize = 400;
@@ -32,15 +31,8 @@ fn case(line: &[u8]) {
 // The table of the case's sheet; of a sheet that is refused, a table all zeros.
 fn table(line: &[u8]) -> Table {
     let mut bytes = io::buffer();
-    let n = text_of(line, &mut bytes);
+    let n = cases::text_of(line, 1, &mut bytes);
     sheet::read_sheet(&bytes[..n]).table
-}
-
-// Puts the sheet's text at the front of a buffer, and says how many bytes that are.
-fn text_of(line: &[u8], bytes: &mut [u8]) -> usize
-    ensures { λ r. ⌜ Counts r (now (bytes .exit)) ⌝ }
-{
-    cases::put_text(cases::field(line, 1), bytes)
 }
 
 // Lends so many places.

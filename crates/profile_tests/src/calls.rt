@@ -73,7 +73,7 @@ fn words_of(line: &[u8], words: &mut [u32]) -> usize
 // Reads the case's log into words, and says how many; a log that is refused has none.
 fn entries(line: &[u8], words: &mut [u32]) -> usize {
     let mut bytes = io::buffer();
-    let n = tables::text_of(line, 3, &mut bytes);
+    let n = cases::text_of(line, 3, &mut bytes);
     match joblog::read_log(&bytes[..n], words) {
         LogAnswer::Read(count) => count,
         LogAnswer::Refused(_, _) => 0,

@@ -3,20 +3,12 @@ use super::show;
 use aldlf::NodeLine;
 use aldlf::Table;
 use aldlf::Used;
-ghost use Rattle.io.specs.Counts.{Counts};
 
 // The table of the case's sheet.
 pub(crate) fn read(line: &[u8]) -> Table {
     let mut bytes = io::buffer();
-    let n = text_of(line, 2, &mut bytes);
+    let n = cases::text_of(line, 2, &mut bytes);
     sheet::read_sheet(&bytes[..n]).table
-}
-
-// Puts the text of a field at the front of a buffer, and says how many bytes that are.
-pub(crate) fn text_of(line: &[u8], k: usize, bytes: &mut [u8]) -> usize
-    ensures { λ r. ⌜ Counts r (now (bytes .exit)) ⌝ }
-{
-    cases::put_text(cases::field(line, k), bytes)
 }
 
 // The table with the case's node line in its place, and with so many nodes in use.

@@ -57,7 +57,7 @@ fn words_of(line: &[u8], words: &mut [u32]) -> usize
 // Reads the case's log into words, and says how many. One of 513 entries is refused at line 513: then so many words, as they were.
 fn entries(line: &[u8], words: &mut [u32]) -> usize {
     let mut bytes = io::buffer();
-    let n = text_of(line, 3, &mut bytes);
+    let n = cases::text_of(line, 3, &mut bytes);
     match joblog::read_log(&bytes[..n], words) {
         LogAnswer::Read(count) => count,
         LogAnswer::Refused(_, k) => k,
@@ -78,15 +78,8 @@ fn room(line: &[u8], places: &[u16]) -> usize
 // The table of the case's sheet.
 fn table(line: &[u8]) -> Table {
     let mut bytes = io::buffer();
-    let n = text_of(line, 2, &mut bytes);
+    let n = cases::text_of(line, 2, &mut bytes);
     sheet::read_sheet(&bytes[..n]).table
-}
-
-// Puts the text of a field at the front of a buffer, and says how many bytes that are.
-fn text_of(line: &[u8], k: usize, bytes: &mut [u8]) -> usize
-    ensures { λ r. ⌜ Counts r (now (bytes .exit)) ⌝ }
-{
-    cases::put_text(cases::field(line, k), bytes)
 }
 
 // The number in a field.

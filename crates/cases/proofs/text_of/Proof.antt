@@ -1,8 +1,8 @@
 -- `text_of` meets its contract: the text lies within the buffer. Assumes nothing.
 use borrow.Author.Needs.{needs}
 use Rattle.io.proofs.Counting.{counts}
-use Rattle.profile_tests.proofs.tables.text_of.Statement.{statement}
-use Rattle.profile_tests.proofs.tables.text_of.Tie as tie
+use Rattle.cases.proofs.text_of.Statement.{statement}
+use Rattle.cases.proofs.text_of.Tie as tie
 
 field-requires : tie.Need-field-requires
 field-requires c κs = search needs
