@@ -70,7 +70,7 @@ returns c =
     λ t L M.
     let low = lower (c .before .before .before .before .before .before) in
     last-two (c .before .before .before .before .before .before .before .before .before .before .args .room) (nodeText (sheetOf t) (x .a)) (nodeText (sheetOf t) (x .b)) (nodeText (sheetOf t) k) (operatorOf x) _ _ _ _
-    (two-text t (L .facts) k x (read (c .before .before .before .before .before .before .before) t L) (either-letter _ letterA letterO (c .before .before .before .before .before .before .if1 .taken))) (text-some (sheetOf t) (x .a)) (text-some (sheetOf t) (x .b)) (M .each (x .a) (low .0)) (M .each (x .b) (low .1)) (c .before .further .ensures) (c .further2 .ensures)
+    (two-text t (L .facts) k x (read (c .before .before .before .before .before .before .before) t L) (either-letter _ letterA letterO (c .before .before .before .before .before .before .if1 .taken))) (text-some (sheetOf t) (x .a)) (text-some (sheetOf t) (x .b)) (M .each (x .a) (low .0)) (M .each (x .b) (low .1)) (c .before .further .ensures) (omega (arith, c .further2 .ensures))
 
 operand-requires : tie.Need-operand-requires
 operand-requires c κs = search needs
