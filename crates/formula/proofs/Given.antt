@@ -59,7 +59,7 @@ keeps =
       brackets = λ p u h. h;
     }
 
-writes-facts : (a : Formula) (text : List ℕ) → Writes a text → FactsIn a
+pub writes-facts : (a : Formula) (text : List ℕ) → Writes a text → FactsIn a
 writes-facts a text t = on-disjunction claims keeps t
 
 -- Question 10, as the sheet asks it

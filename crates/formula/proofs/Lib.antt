@@ -18,3 +18,4 @@ pub mod Stands
 pub mod Growing
 pub mod Given
 pub mod Outcomes
+pub mod Coding

@@ -7,3 +7,4 @@ pub mod Numbering
 pub mod Outcome
 pub mod Counts
 pub mod Answer
+pub mod Code

@@ -1,0 +1,3 @@
+pub mod Work
+pub mod Build
+pub mod Written

@@ -1,0 +1,193 @@
+// What stands in a formula's text without a formula or path of its own: single bytes, `true`, facts, stars.
+use super::parse::Parse;
+use super::writing::Writing;
+use super::writing::write;
+ghost use mathlib.Core.Path.{_≡_};
+ghost use mathlib.Core.Bool.{true};
+ghost use mathlib.Core.List.{List};
+ghost use Prim.Native.Nat.{ℕ, _+_, _*_, _-_, _≤_, _<_};
+ghost use lib.ListN.{length};
+ghost use Rattle.text.specs.Text.{isDigit};
+ghost use Rattle.formula.specs.Formula.{Formula};
+ghost use Rattle.formula.specs.Parse.{byte, closed, mapGot, isPair, isPrefix, factAt, trueAt};
+ghost use Rattle.parsing.specs.Work.{workOf};
+ghost use Rattle.parsing.specs.Build.{build, seenOf, gotOf, factBy, simpleAt, starsOn};
+
+fn wide(x: u8) -> u16
+    ensures { λ r. ⌜ r ≡ x ⌝ }
+{
+    x as u16
+}
+
+// The byte at a place, 256 past the end.
+pub(crate) fn byte_at(text: &[u8], at: usize) -> u16
+    ensures { λ r. ⌜ r ≡ byte (now (text .entry)) at ⌝ }
+{
+    if at < text.len() {
+        return wide(text[at]);
+    }
+    256
+}
+
+// The byte begins a prefix: `!`, `<` or `[`.
+pub(crate) fn is_prefix(b: u16) -> bool
+    ensures { λ r. ⌜ r ≡ isPrefix b ⌝ }
+{
+    (b == 33) | ((b == 60) | (b == 91))
+}
+
+// What was read, if the byte b stands behind it.
+pub(crate) fn close(text: &[u8], p: Parse, b: u16) -> Parse
+    requires { ⌜ b < 256 ⌝ }
+    ensures { λ r. ⌜ ((out : List ℕ) → gotOf (seenOf r out) ≡ closed (now (text .entry)) b (gotOf (seenOf p out))) ⌝ }
+{
+    let number = p.number;
+    if number != 0 {
+        return p;
+    }
+    let at = p.at;
+    let x = byte_at(text, at);
+    let w = p.writing;
+    if x == b {
+        return Parse {
+            number: 0,
+            at: at + 1,
+            writing: w,
+        };
+    }
+    Parse {
+        number: 51,
+        at,
+        writing: w,
+    }
+}
+
+// `true` or a fact.
+pub(crate) fn simple(text: &[u8], at: usize, w: Writing, out: &mut [u8]) -> Parse
+    ensures { λ r. ⌜ gotOf (seenOf r (now (out .exit))) ≡ mapGot (λ (a : Formula). build a (workOf w (now (out .entry)))) (simpleAt (now (text .entry)) at) ⌝ }
+{
+    let b = byte_at(text, at);
+    if b == 116 {
+        return truth(text, at + 1, w, out);
+    }
+    if b == 102 {
+        return fact(text, at + 1, w, out);
+    }
+    Parse {
+        number: 51,
+        at,
+        writing: w,
+    }
+}
+
+// After `t`: `r`, `u`, `e`.
+fn truth(text: &[u8], at: usize, w: Writing, out: &mut [u8]) -> Parse
+    requires { ⌜ at ≤ length (now text) ⌝ }
+    ensures { λ r. ⌜ gotOf (seenOf r (now (out .exit))) ≡ mapGot (λ (a : Formula). build a (workOf w (now (out .entry)))) (trueAt (now (text .entry)) at) ⌝ }
+{
+    if byte_at(text, at) != 114 {
+        return Parse {
+            number: 51,
+            at,
+            writing: w,
+        };
+    }
+    if byte_at(text, at + 1) != 117 {
+        return Parse {
+            number: 51,
+            at: at + 1,
+            writing: w,
+        };
+    }
+    if byte_at(text, at + 2) != 101 {
+        return Parse {
+            number: 51,
+            at: at + 2,
+            writing: w,
+        };
+    }
+    let x = write(w, b'T', out);
+    Parse {
+        number: 0,
+        at: at + 3,
+        writing: x,
+    }
+}
+
+// After `f`: 0 to 31 without padding, the longest that goes on.
+fn fact(text: &[u8], at: usize, w: Writing, out: &mut [u8]) -> Parse
+    requires { ⌜ at ≤ length (now text) ⌝ }
+    ensures { λ r. ⌜ gotOf (seenOf r (now (out .exit))) ≡ mapGot (λ (a : Formula). build a (workOf w (now (out .entry)))) (factAt (now (text .entry)) at) ⌝ }
+{
+    let b = byte_at(text, at);
+    if !is_digit(b) {
+        return Parse {
+            number: 51,
+            at,
+            writing: w,
+        };
+    }
+    let c = byte_at(text, at + 1);
+    if is_pair(b, c) {
+        return two_digits(at, b, c, w, out);
+    }
+    one_digit(at, b, w, out)
+}
+
+fn is_digit(b: u16) -> bool
+    ensures { λ r. ⌜ r ≡ isDigit b ⌝ }
+{
+    (48 <= b) & (b <= 57)
+}
+
+// Two digits that are a fact's number: 10 to 31.
+fn is_pair(b: u16, c: u16) -> bool
+    ensures { λ r. ⌜ r ≡ isPair b c ⌝ }
+{
+    is_digit(c) & (((49 <= b) & (b <= 50)) | ((b == 51) & (c <= 49)))
+}
+
+fn one_digit(at: usize, b: u16, w: Writing, out: &mut [u8]) -> Parse
+    requires { ⌜ (isDigit b ≡ true) × (at < 18446744073709551615) ⌝ }
+    ensures { λ r. ⌜ gotOf (seenOf r (now (out .exit))) ≡ factBy (b - 48) (at + 1) (workOf w (now (out .entry))) ⌝ }
+{
+    let x = write(w, (b - 48) as u8, out);
+    Parse {
+        number: 0,
+        at: at + 1,
+        writing: x,
+    }
+}
+
+fn two_digits(at: usize, b: u16, c: u16, w: Writing, out: &mut [u8]) -> Parse
+    requires { ⌜ (isPair b c ≡ true) × (at < 18446744073709551614) ⌝ }
+    ensures { λ r. ⌜ gotOf (seenOf r (now (out .exit))) ≡ factBy ((b - 48) * 10 + (c - 48)) (at + 2) (workOf w (now (out .entry))) ⌝ }
+{
+    let x = write(w, ((b - 48) * 10 + (c - 48)) as u8, out);
+    Parse {
+        number: 0,
+        at: at + 2,
+        writing: x,
+    }
+}
+
+// As many `*` as there are behind a piece.
+pub(crate) fn stars(text: &[u8], p: Parse, out: &mut [u8]) -> Parse
+    ensures { λ r. ⌜ gotOf (seenOf r (now (out .exit))) ≡ starsOn (now (text .entry)) (gotOf (seenOf p (now (out .entry)))) ⌝ }
+{
+    let number = p.number;
+    if number != 0 {
+        return p;
+    }
+    let mut at = p.at;
+    let mut w = p.writing;
+    while byte_at(text, at) == 42 {
+        w = write(w, b'*', out);
+        at += 1;
+    }
+    Parse {
+        number: 0,
+        at,
+        writing: w,
+    }
+}
