@@ -5,7 +5,7 @@
  * (each says what; else 0). Where a list of logs is judged, the upper 32 bits are the log that the question is about; where a rule is printed,
  * they are the upper bits of the text's length.
  * A refusal alters nothing that was lent. The questions about texts, profiles and printed rules and their numbers stand in docs/SHEETS.md and
- * docs/LOGS.md, those about judging and walks in document 01; three are the boundary's own:
+ * docs/LOGS.md, those about formulas in docs/FORMULAS.md, those about judging and walks in document 01; three are the boundary's own:
  *   35  a table or row to be written has its fixed length. Asked first.
  *   43  a way is ROZSVELEN_AHEAD or ROZSVELEN_BACK. Asked after 35.
  *   44  a page fits in the lent bytes.
@@ -57,6 +57,12 @@ static inline int rozsvelen_verdict(const uint64_t *verdicts, size_t entry, uint
 
 /* Reads a rule sheet's text into a table of ROZSVELEN_TABLE numbers. Questions 35, then 1 to 11. Stack: 16 KB. */
 uint64_t rozsvelen_read_sheet(const uint8_t *text, size_t text_len, uint16_t *table, size_t table_len);
+
+/* Reads a rule that is one line of text, a formula, into the table of its sheet, of ROZSVELEN_TABLE numbers; no LF stands behind it. Questions 35;
+ * 50 (it has no more than 4,096 bytes); 51 (a formula can go on) and 52 (no more than 16 marks are open), by the first byte that is about either;
+ * 54 (no path mark stands within an ahead or back step); 53 (its sheet is no larger than a sheet may be). rozsvelen_extra of 51 is the place, from
+ * 0, of the first byte with which no formula can go on, text_len where the text stops short; of all else it is 0. Stack: 100 KB. */
+uint64_t rozsvelen_read_formula(const uint8_t *text, size_t text_len, uint16_t *table, size_t table_len);
 
 /* Puts the plain profile of a table, where N stands directly on a fact, into a table of ROZSVELEN_TABLE numbers: node k gives node 2k with the
  * same meaning and node 2k+1 with its opposite, and a last node repeats the rule's. Questions 35, 31, 42 (it has no more nodes than a sheet

@@ -1,6 +1,6 @@
 /* What only a caller in C can do or see: the parts of an answer, verdicts, empty slices at NULL, and the stack that each call takes; and numbers
  * with zeros before them, profiles, sheets with spare automata, sheets of up to 128 nodes, logs with counters, steps and entries of counters,
- * rules as text, through the C calls.
+ * rules as text and from text, through the C calls.
  * Ends in 'N passed, M failed'. */
 #include "rozsvelen.h"
 
@@ -60,9 +60,32 @@ static void write_deep(void) {
     for (int k = 1; k < ROZSVELEN_NODES; k++) end += sprintf(end, lines[(k - 1) % 5], k - 1);
 }
 
+/* A formula that takes all 128 nodes: 14 path marks, one behind the other, of eight steps each, and each `true` in brackets 16 deep. */
+static char formula[4097];
+static void write_formula(void) {
+    char *end = formula;
+    for (int m = 0; m < 14; m++) {
+        for (int step = 0; step < 8; step++) end += sprintf(end, "%c{((((((((((((((true))))))))))))))}-", step == 0 ? '<' : ';');
+        end += sprintf(end, ">");
+    }
+    sprintf(end, "((((((((((((((((true))))))))))))))))");
+}
+
+/* A first piece, so many alike, and a last one. */
+static const char *joined(const char *first, int count, const char *piece, const char *last) {
+    static char pieces[8192];
+    char *end = pieces + sprintf(pieces, "%s", first);
+    for (int k = 0; k < count; k++) end += sprintf(end, "%s", piece);
+    strcpy(end, last);
+    return pieces;
+}
+
 static const uint8_t *text(const char *s) { return (const uint8_t *)s; }
 
 static void read_sheet(void) { answer = rozsvelen_read_sheet(text(rules), strlen(rules), table, ROZSVELEN_TABLE); }
+static void formula_into_made(const char *s) { answer = rozsvelen_read_formula(text(s), strlen(s), made, ROZSVELEN_TABLE); }
+static void read_formula(void) { formula_into_made(formula); }
+static void read_negations(void) { formula_into_made(joined("", 4096, "!", "")); }
 static void profile(void) { answer = rozsvelen_profile(table, ROZSVELEN_TABLE, made, ROZSVELEN_TABLE); }
 static void in_profile(void) { answer = rozsvelen_in_profile(made, ROZSVELEN_TABLE); }
 static void rule_looks(void) { answer = rozsvelen_rule_looks(table, ROZSVELEN_TABLE); }
@@ -119,6 +142,7 @@ static void takes(const char *name, void (*call)(void), uint64_t wanted, size_t 
 }
 
 static uint64_t refused(uint64_t number) { return number << 16; }
+static uint64_t refused_at(uint64_t number, uint64_t place) { return refused(number) + (place << 48); }
 
 /* Each part of an answer is taken from its own bits, a list's log from the bits of two, and a text's length from those of three. */
 static void answer_parts(void) {
@@ -145,6 +169,9 @@ static void empty_slices(void) {
     const uint64_t first = (uint64_t)1 << 32;
     check("read_sheet of no text", rozsvelen_read_sheet(NULL, 0, only_ahead, T) == refused(2));
     check("read_sheet into no table", rozsvelen_read_sheet(sheet, 2, NULL, 0) == refused(35));
+    check("read_formula of no text", rozsvelen_read_formula(NULL, 0, only_ahead, T) == refused_at(51, 0));
+    check("read_formula into no table", rozsvelen_read_formula(text("f1"), 2, NULL, 0) == refused(35));
+    check("read_formula of no text into no table", rozsvelen_read_formula(NULL, 0, NULL, 0) == refused(35));
     check("profile with no table", rozsvelen_profile(NULL, 0, made, T) == refused(31));
     check("profile into no table", rozsvelen_profile(table, T, NULL, 0) == refused(35));
     check("in_profile with no table", rozsvelen_in_profile(NULL, 0) == refused(31));
@@ -650,6 +677,223 @@ static void long_rules(void) {
     }
 }
 
+static uint64_t formula_into(const char *s, uint16_t *into) { return rozsvelen_read_formula(text(s), strlen(s), into, ROZSVELEN_TABLE); }
+
+/* The sheets that docs/FORMULAS.md makes of formulas, worked by hand: letters, grouping, brackets, each kind of step and of path, two automata, and
+ * one within a test of the other. The number behind the table keeps its content. */
+#define STAR "M,4,2\nG,3\nE,0,1,1,1\nE,2,0,0,0\nE,1,0,0,0\nE,1,0,0,3\nE,2,0,0,3\n"
+static void formulas_read(void) {
+    enum { T = ROZSVELEN_TABLE, OLD = 0x5a };
+    static const struct { const char *formula, *sheet; } cases[] = {
+        { "true", "T\nT\n" },
+        { "f0", "T\nP,0\n" },
+        { "f31", "T\nP,31\n" },
+        { "((f9))", "T\nP,9\n" },
+        { "!!f1", "T\nP,1\nN,1\nN,2\n" },
+        { "f1&f1", "T\nP,1\nP,1\nA,1,2\n" },
+        { "f1|f2&f3", "T\nP,1\nP,2\nP,3\nA,2,3\nO,1,4\n" },
+        { "f1&f2|f3", "T\nP,1\nP,2\nA,1,2\nP,3\nO,3,4\n" },
+        { "(f1|f2)&f3", "T\nP,1\nP,2\nO,1,2\nP,3\nA,3,4\n" },
+        { "f1&f2&f3", "T\nP,1\nP,2\nA,1,2\nP,3\nA,3,4\n" },
+        { "f1|(f2|f3)", "T\nP,1\nP,2\nP,3\nO,2,3\nO,1,4\n" },
+        { "!f1&f2", "T\nP,1\nN,1\nP,2\nA,2,3\n" },
+        { "!(f1&f2)", "T\nP,1\nP,2\nA,1,2\nN,3\n" },
+        { "<{f1}>f2", "T\nP,1\nM,2,0\nG,1\nE,0,1,1,1\nP,2\nD,0,2\n" },
+        { "[{f1}-]f2", "T\nP,1\nM,2,0\nG,1\nE,0,2,1,1\nP,2\nB,0,2\n" },
+        { "<{f1}?>f2", "T\nP,1\nM,2,0\nG,1\nE,0,0,1,1\nP,2\nD,0,2\n" },
+        { "!<{f1}>f2", "T\nP,1\nM,2,0\nG,1\nE,0,1,1,1\nP,2\nD,0,2\nN,3\n" },
+        { "<{f1}>f2&f3", "T\nP,1\nM,2,0\nG,1\nE,0,1,1,1\nP,2\nD,0,2\nP,3\nA,3,4\n" },
+        { "<{f1}>(f2&f3)", "T\nP,1\nM,2,0\nG,1\nE,0,1,1,1\nP,2\nP,3\nA,2,3\nD,0,4\n" },
+        { "<{f1|!f2}>f3", "T\nP,1\nP,2\nN,2\nO,1,3\nM,2,0\nG,1\nE,0,1,4,1\nP,3\nD,0,5\n" },
+        { "<{f1};{f2}>f3", "T\nP,1\nP,2\nM,4,0\nG,3\nE,0,1,1,1\nE,2,1,2,3\nE,1,0,0,2\nP,3\nD,0,3\n" },
+        { "<{f1}+{f2}->f3",
+          "T\nP,1\nP,2\nM,6,4\nG,5\nE,0,1,1,1\nE,2,2,2,3\nE,4,0,0,0\nE,4,0,0,2\nE,1,0,0,5\nE,3,0,0,5\nP,3\nD,0,3\n" },
+        { "<{true}*>f1", "T\nT\n" STAR "P,1\nD,0,2\n" },
+        { "[({f7})*]f1", "T\nP,7\n" STAR "P,1\nB,0,2\n" },
+        { "<{f1}**>f2",
+          "T\nP,1\nM,6,4\nG,5\nE,0,1,1,1\nE,2,0,0,0\nE,1,0,0,0\nE,1,0,0,3\nE,2,0,0,3\nE,4,0,0,2\nE,3,0,0,2\nE,3,0,0,5\nE,4,0,0,5\n"
+          "P,2\nD,0,2\n" },
+        { "<({f1};{f2})*>f3",
+          "T\nP,1\nP,2\nM,6,4\nG,5\nE,0,1,1,1\nE,2,1,2,3\nE,1,0,0,2\nE,4,0,0,0\nE,3,0,0,0\nE,3,0,0,5\nE,4,0,0,5\nP,3\nD,0,3\n" },
+        { "<{f1}+{f2};{f3}*>f4",
+          "T\nP,1\nP,2\nP,3\nM,10,8\nG,9\nE,0,1,1,1\nE,2,1,2,3\nE,4,1,3,5\nE,6,0,0,4\nE,5,0,0,4\nE,5,0,0,7\nE,6,0,0,7\nE,3,0,0,6\n"
+          "E,8,0,0,0\nE,8,0,0,2\nE,1,0,0,9\nE,7,0,0,9\nP,4\nD,0,4\n" },
+        { "<{f1}>f2&[{f3}-]f4",
+          "T\nP,1\nM,2,0\nG,1\nE,0,1,1,1\nP,2\nD,0,2\nP,3\nM,2,0\nG,1\nE,0,2,4,1\nP,4\nB,1,5\nA,3,6\n" },
+        { "<{<{f1}>f2}?>f3", "T\nP,1\nM,2,0\nG,1\nE,0,1,1,1\nP,2\nD,0,2\nM,2,0\nG,1\nE,0,0,3,1\nP,3\nD,1,4\n" },
+    };
+    for (size_t i = 0; i < sizeof cases / sizeof *cases; i++) {
+        uint16_t wanted[T], out[T + 1];
+        memset(out, OLD, sizeof out);
+        table_of(cases[i].sheet, wanted);
+        check_of("read_formula", cases[i].formula, formula_into(cases[i].formula, out) == 0);
+        check_of("the table", cases[i].formula, memcmp(out, wanted, sizeof wanted) == 0);
+        check_of("the number behind the table", cases[i].formula, out[T] == (OLD << 8 | OLD));
+    }
+}
+
+/* Formulas judged on logs of three entries, by the meaning of docs/FORMULAS.md: where the rule holds. */
+#define DESK "[{true}*](!f2|<{!f0}-*>f1)"
+static void formulas_judged(void) {
+    enum { T = ROZSVELEN_TABLE };
+    static const struct { const char *formula; uint32_t log[3]; int holds[3]; } cases[] = {
+        { "f1|f2&!f0", { 5, 4, 2 }, { 0, 1, 1 } },
+        { "<{true}*>f1", { 1, 2, 4 }, { 1, 1, 0 } },
+        { "[{true}*]f1", { 1, 2, 2 }, { 0, 1, 1 } },
+        { "<{true}-*>f1", { 1, 2, 4 }, { 0, 1, 1 } },
+        { "<{true}>f1", { 1, 2, 4 }, { 1, 0, 0 } },
+        { "[{true}]!true", { 1, 2, 4 }, { 0, 0, 1 } },
+        { "[{true}-]!true", { 1, 2, 4 }, { 1, 0, 0 } },
+        { "<{f1}?;{true}>f2", { 2, 4, 4 }, { 1, 0, 0 } },
+        { "<{true}+{true}->f1", { 0, 2, 0 }, { 1, 0, 1 } },
+        { "<{f1}**>f2", { 2, 2, 4 }, { 1, 1, 1 } },
+        { "<{f1}**>f2", { 2, 1, 4 }, { 0, 0, 1 } },
+        { "<({f1};{f2})*>f3", { 2, 4, 8 }, { 1, 0, 1 } },
+        { "<({<{true}*>f1}?;{true})*>f2", { 2, 0, 4 }, { 0, 0, 1 } },
+        { "<({<{true}*>f1}?;{true})*>f2", { 0, 2, 4 }, { 1, 1, 1 } },
+        { DESK, { 1, 2, 4 }, { 1, 1, 1 } },
+        { DESK, { 2, 1, 4 }, { 0, 0, 0 } },
+    };
+    for (size_t i = 0; i < sizeof cases / sizeof *cases; i++) {
+        const int *holds = cases[i].holds;
+        uint16_t out[T] = { 0 };
+        uint64_t judged[6] = { 0 };
+        check_of("read_formula", cases[i].formula, formula_into(cases[i].formula, out) == 0);
+        uint32_t rule = (uint32_t)(out[T - 3] - 1) % ROZSVELEN_NODES;
+        uint64_t held_at = rozsvelen_judge(out, T, cases[i].log, 3, judged, 6);
+        check_of("the count held", cases[i].formula, held_at == (uint64_t)(holds[0] + holds[1] + holds[2]));
+        for (size_t entry = 0; entry < 3; entry++) check_of("a verdict", cases[i].formula, rozsvelen_verdict(judged, entry, rule) == holds[entry]);
+    }
+}
+
+/* By which question texts are refused, at which place, and that nothing is altered beside it. */
+static void formulas_refused(void) {
+    enum { T = ROZSVELEN_TABLE };
+    static const struct { const char *formula; uint64_t number, place; } cases[] = {
+        { "", 51, 0 },
+        { "x", 51, 0 },
+        { " f1", 51, 0 },
+        { "F1", 51, 0 },
+        { "false", 51, 1 },
+        { "tru", 51, 3 },
+        { "truth", 51, 3 },
+        { "true1", 51, 4 },
+        { "f", 51, 1 },
+        { "f01", 51, 2 },
+        { "f32", 51, 2 },
+        { "f40", 51, 2 },
+        { "f310", 51, 3 },
+        { "f1 ", 51, 2 },
+        { "f1\n", 51, 2 },
+        { "f1)", 51, 2 },
+        { "f1f2", 51, 2 },
+        { "f1-", 51, 2 },
+        { "f1&", 51, 3 },
+        { "f1&|f2", 51, 3 },
+        { "!", 51, 1 },
+        { "()", 51, 1 },
+        { "(f1", 51, 3 },
+        { "(f1]", 51, 3 },
+        { "{f1}f2", 51, 0 },
+        { "<>f1", 51, 1 },
+        { "<f1>f2", 51, 1 },
+        { "<{f1}f2", 51, 5 },
+        { "<{f1}]f2", 51, 5 },
+        { "[{f1}>f2", 51, 5 },
+        { "<{f1)>f2", 51, 4 },
+        { "<{f1}--", 51, 6 },
+        { "<{f1}*->f2", 51, 6 },
+        { "<({f1};{f2})->f3", 51, 12 },
+        { "<{f1};>f2", 51, 6 },
+        { "<{f1}>", 51, 6 },
+        { "<*>f1", 51, 1 },
+        { "<{<{f1}>f2}>f3)", 51, 14 },
+        { "<{<{f1}>f2}>f3", 54, 0 },
+        { "<{(!<{f1}>f2)}->f3", 54, 0 },
+        { "[{f1}*]<{f2}+{f3&[{f4}]f5}>f6", 54, 0 },
+        { "<{<{[{f1}]f2}>f3}?>f4", 54, 0 },
+    };
+    uint16_t out[T], before[T];
+    memset(before, 0x5a, sizeof before);
+    memcpy(out, before, sizeof out);
+    for (size_t i = 0; i < sizeof cases / sizeof *cases; i++) {
+        check_of("read_formula", cases[i].formula, formula_into(cases[i].formula, out) == refused_at(cases[i].number, cases[i].place));
+    }
+    check("read_formula of f1 and NUL", rozsvelen_read_formula(text("f1"), 3, out, T) == refused_at(51, 2));
+    check("read_formula, refused, the table lent", memcmp(out, before, sizeof out) == 0);
+}
+
+/* What just fits, with the nodes and edges of its sheet, and what is one too many: bytes, marks open, nodes, automata, states, edges. */
+struct limit {
+    const char *name, *first;
+    int count;
+    const char *piece, *last;
+    uint64_t number, place;
+    uint16_t nodes, edges; /* of a sheet that was made */
+};
+static const struct limit limits[] = {
+    { "4,096 bytes", "", 4094, "!", "f1", 53, 0, 0, 0 },
+    { "4,097 bytes", "", 4095, "!", "f1", 50, 0, 0, 0 },
+    { "4,096 bytes that stop short", "", 4096, "!", "", 51, 4096, 0, 0 },
+    { "4,097 bytes that stop short", "", 4097, "!", "", 50, 0, 0, 0 },
+    { "16 marks", "", 16, "(", "f1))))))))))))))))", 0, 0, 2, 0 },
+    { "17 marks", "", 17, "(", "f1)))))))))))))))))", 52, 0, 0, 0 },
+    { "17 marks and no more", "", 17, "(", "", 52, 0, 0, 0 },
+    { "17 marks and what no formula has", "", 17, "(", "x", 52, 0, 0, 0 },
+    { "17 marks behind what no formula has", ")", 17, "(", "", 51, 0, 0, 0 },
+    { "16 marks and no more", "", 16, "(", "", 51, 16, 0, 0 },
+    { "16 marks and one that no formula has", "", 16, "(", "{", 51, 16, 0, 0 },
+    { "16 marks and <", "", 16, "(", "<{f1}>f2", 52, 0, 0, 0 },
+    { "16 marks and [", "", 16, "(", "[{f1}]f2", 52, 0, 0, 0 },
+    { "14 marks, < and {", "", 14, "(", "<{f1}>f2))))))))))))))", 0, 0, 4, 1 },
+    { "15 marks, < and {", "", 15, "(", "<{f1}>f2)))))))))))))))", 52, 0, 0, 0 },
+    { "marks that were closed", "(f1)", 16, "&(f1)", "", 0, 0, 34, 0 },
+    { "128 nodes by &", "", 63, "f1&", "f1", 0, 0, 128, 0 },
+    { "130 nodes by &", "", 64, "f1&", "f1", 53, 0, 0, 0 },
+    { "128 nodes by !", "", 126, "!", "f1", 0, 0, 128, 0 },
+    { "129 nodes by !", "", 127, "!", "f1", 53, 0, 0, 0 },
+    { "16 automata", "", 16, "<{f1}>", "f1", 0, 0, 34, 16 },
+    { "17 automata", "", 17, "<{f1}>", "f1", 53, 0, 0, 0 },
+    { "16 states by ;", "<", 7, "{f1};", "{f1}>f2", 0, 0, 11, 15 },
+    { "18 states by ;", "<", 8, "{f1};", "{f1}>f2", 53, 0, 0, 0 },
+    { "14 states by +", "<", 3, "{f1}+", "{f1}>f2", 0, 0, 7, 16 },
+    { "18 states by +", "<", 4, "{f1}+", "{f1}>f2", 53, 0, 0, 0 },
+    { "16 states by *", "<{f1}", 7, "*", ">f2", 0, 0, 4, 29 },
+    { "18 states by *", "<{f1}", 8, "*", ">f2", 53, 0, 0, 0 },
+    { "256 edges", "", 8, "<{f1}*******>", "<({f1}+{f1};{f1})****>f1", 0, 0, 22, 256 },
+    { "257 edges", "", 8, "<{f1}*******>", "<{f1}******>f1", 53, 0, 0, 0 },
+    { "a stray path mark and 133 nodes", "<{<{f1}>f2}>", 127, "!", "f3", 54, 0, 0, 0 },
+};
+static void formulas_limited(void) {
+    enum { T = ROZSVELEN_TABLE };
+    for (const struct limit *x = limits; x < limits + sizeof limits / sizeof *limits; x++) {
+        uint16_t out[T], before[T];
+        memset(before, 0x5a, sizeof before);
+        memcpy(out, before, sizeof out);
+        check_of("read_formula", x->name, formula_into(joined(x->first, x->count, x->piece, x->last), out) == refused_at(x->number, x->place));
+        if (x->number == 0) {
+            check_of("nodes and edges", x->name, out[T - 3] == x->nodes && out[T - 1] == x->edges);
+        } else {
+            check_of("the table lent", x->name, memcmp(out, before, sizeof out) == 0);
+        }
+    }
+}
+
+/* 35 comes before what is asked of the text, and alters nothing. */
+static void formulas_into_no_table(void) {
+    enum { T = ROZSVELEN_TABLE };
+    static const char *const formulas[] = { "f1", "f32", "" };
+    uint16_t out[T + 1], before[T + 1];
+    memset(before, 0x5a, sizeof before);
+    memcpy(out, before, sizeof out);
+    for (size_t i = 0; i < sizeof formulas / sizeof *formulas; i++) {
+        size_t bytes = strlen(formulas[i]);
+        check_of("a number less", formulas[i], rozsvelen_read_formula(text(formulas[i]), bytes, out, T - 1) == refused(35));
+        check_of("a number more", formulas[i], rozsvelen_read_formula(text(formulas[i]), bytes, out, T + 1) == refused(35));
+    }
+    check("read_formula into no table's length, the numbers lent", memcmp(out, before, sizeof out) == 0);
+}
+
 int main(void) {
     enum { BYTES = 10 * 4 + 90 * 5 + 412 * 6 + 23 + 10 + 5 * 511 * 2 + 11 * 511 * 3 + 5 * 2 + 10 * 3 }; /* of the page: entries, rule, walk */
     enum { DEEP = 4 + 25 * (3 + 7 + 7 + 6 + 6) + 3 + 7 }; /* of the deepest rule: true, 25 times the five letters, N, A */
@@ -658,7 +902,11 @@ int main(void) {
     write_texts();
     write_counted();
     write_deep();
+    write_formula();
     takes("read_sheet", read_sheet, 0, 16);
+    takes("read_formula", read_formula, 0, 100);
+    check("read_formula, its nodes, automata and edges", made[1504] == 128 && made[1505] == 14 && made[1506] == 14 * 15);
+    takes("read_formula of 4,096 !", read_negations, refused_at(51, 4096), 100);
     takes("profile", profile, 0, 8);
     takes("in_profile", in_profile, 1, 8);
     takes("rule_looks", rule_looks, ROZSVELEN_AHEAD + ROZSVELEN_BACK, 8);
@@ -699,6 +947,11 @@ int main(void) {
     no_rules();
     endless_rules();
     long_rules();
+    formulas_read();
+    formulas_judged();
+    formulas_refused();
+    formulas_limited();
+    formulas_into_no_table();
     printf("%d passed, %d failed\n", passed, failed);
     return failed != 0;
 }

@@ -1,4 +1,4 @@
-//! The sheets and logs that are timed.
+//! The sheets, formulas and logs that are timed.
 
 /// Document 01's sheet Z: a B over D and or.
 pub const Z: &str = "P,0\nP,1\nP,2\nN,0\nT\nM,1,0\nG,0\nE,0,2,3,0\nD,0,1\nN,2\nO,6,5\nM,1,0\nG,0\nE,0,1,4,0\nB,1,7\n";
@@ -8,6 +8,32 @@ pub const W: &str = "T\nP,1\nM,1,0\nG,0\nE,0,1,0,0\nD,0,1\n";
 /// A rule of 4,093 bytes: a D and a B of opposites of facts in 29 bytes, and seven times two of what stands before.
 pub const LONG_RULE: &str = "P,1\nP,20\nN,0\nN,1\nM,1,0\nG,0\nE,0,1,0,0\nD,0,2\nB,0,3\nO,4,5\nN,6\n\
     A,7,7\nO,8,8\nA,9,9\nO,10,10\nA,11,11\nO,12,12\nA,13,13\n";
+
+/// The rule of sheet Z as a formula: from here on, every plate lies after an approval that follows the last change of the artwork.
+pub const Z_FORMULA: &str = "[{true}*](!f2|<{!f0}-*>f1)";
+
+/// The other rules of the desk in docs/FORMULAS.md.
+pub const DESK: [&str; 11] = [
+    "[{true}*](!f0|<{true}*>f1)",
+    "[{true}*](!f0|[{!f1}*](f1|!f2))",
+    "[{true}*](!f2|<{!f0}-*;{f1&!f0}-;{!f0}-*>f1)",
+    "[{true}*](!f1|<{!f0}-*>f5&<{!f0}-*>f6)",
+    "[{true}*](!f3|<{true}+{true};{true}+{true};{true};{true}>(f1|f4))",
+    "[{true}*](!f4|[{true};{!f0}*](f0|!f3))",
+    "[{true}*](!f2|!<{!f8}-*>f7)",
+    "[{true}*](!f9|[{true}*]!f0)",
+    "<{true}-*;{[{true}-]!true}?>f0",
+    "<{true}*;{[{true}]!true}?>f9",
+    "[{true}*](!f2|<{true}+{true}->f2)",
+];
+
+/// So many path marks over eight steps each, and `true` behind them; every `true` in as many brackets as may be open. Of 14 marks it is the longest
+/// formula that fits a sheet: 4,082 bytes, 128 nodes and 14 automata.
+pub fn long_formula(marks: usize) -> String {
+    let in_brackets = |n: usize| "(".repeat(n) + "true" + &")".repeat(n);
+    let steps = vec![format!("{{{}}}-", in_brackets(14)); 8].join(";");
+    format!("<{steps}>").repeat(marks) + &in_brackets(16)
+}
 
 /// A sheet's text and a log.
 pub type Case = (String, Vec<u32>);

@@ -4,6 +4,7 @@
 //!
 //!     cargo bench
 mod cases;
+mod formulas;
 mod printing;
 mod reading;
 mod same;
@@ -116,6 +117,7 @@ fn main() {
     walking("walk on the zigzag", (&zigzag_text, &zigzag_log), 2, 5);
     reading::reading();
     printing::printing();
+    formulas::reading();
     let (hard_text, hard_log) = hard(2);
     for entries in [64, 128, 256, 512] {
         judging(&format!("hard sheet on {entries} entries"), &hard_text, &hard_log[..entries]);

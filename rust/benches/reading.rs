@@ -5,10 +5,13 @@ use crate::unproved::{readers, TABLE};
 use rozsvelen::{Sheet, NODES};
 use std::hint::black_box;
 
+/// What damage puts into a log or a sheet.
+const BYTES: &[u8] = b"TNDBMGE,\n0123-x";
+
 /// Every text with one byte of the given one replaced, left out or preceded by one of these.
-fn damaged(text: &str) -> impl Iterator<Item = Vec<u8>> + '_ {
+pub fn damaged<'a>(text: &'a str, bytes: &'a [u8]) -> impl Iterator<Item = Vec<u8>> + 'a {
     (0..text.len()).flat_map(move |at| {
-        b"TNDBMGE,\n0123-x".iter().flat_map(move |byte| {
+        bytes.iter().flat_map(move |byte| {
             let (before, after) = text.as_bytes().split_at(at);
             [[before, &[*byte], &after[1..]].concat(), [before, &after[1..]].concat(), [before, &[*byte], after].concat()]
         })
@@ -32,7 +35,7 @@ fn same_sheet(text: &[u8]) {
 
 fn same_answers() {
     let log = "-\n0,1,31\n10,12\n";
-    damaged(log).for_each(|text| same_log(&text, 4));
+    damaged(log, BYTES).for_each(|text| same_log(&text, 4));
     for room in [0, 2, 3] {
         same_log(log.as_bytes(), room);
     }
@@ -41,7 +44,7 @@ fn same_answers() {
     }
     // a D node named by a later edge, and states that stand on one edge each
     for sheet in [Z, W, "T\nM,2,0\nG,0\nE,0,0,0,1\nD,0,0\nM,1,0\nE,0,0,1,0\nN,0\n"] {
-        damaged(sheet).for_each(|text| same_sheet(&text));
+        damaged(sheet, BYTES).for_each(|text| same_sheet(&text));
     }
     // 128 nodes; a node, an automaton and an edge more than there may be
     for text in [

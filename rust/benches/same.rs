@@ -1,6 +1,6 @@
 //! That the versions give the same answers.
 use crate::cases::large;
-use crate::unproved::{bitsets, printing, queue, steps, walks};
+use crate::unproved::{bitsets, formulas, printing, queue, steps, walks};
 use rozsvelen::{Sheet, Way, ENTRIES, NODES, WALK, WORDS};
 
 /// The words and the count of a log.
@@ -28,6 +28,14 @@ pub fn rule(sheet: &Sheet, room: usize) {
     let printed = rozsvelen::print_rule(sheet, &mut a).ok();
     assert_eq!(printed, printing::print_rule(sheet.numbers(), &mut b), "{sheet:?} in {room} bytes: the texts' lengths differ");
     assert!(a == b, "{sheet:?} in {room} bytes: the texts differ");
+}
+
+/// The table of a formula; 0, or the number by which it is refused.
+pub fn formula(text: &[u8]) -> u8 {
+    let proved = Sheet::from_formula(text).map(|sheet| *sheet.numbers()).map_err(|no| (no.number, no.place));
+    let unproved = formulas::formula(text);
+    assert!(proved == unproved, "formula {:?}: {:?} and {:?}", String::from_utf8_lossy(text), proved.err(), unproved.err());
+    unproved.err().map_or(0, |(number, _)| number)
 }
 
 /// The words and the row of a part beside a row of many bits.

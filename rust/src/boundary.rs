@@ -1,6 +1,6 @@
 //! Calls of the static library on slices, and what their answers mean. Nothing else in this crate is unsafe.
 use crate::calls::*;
-use crate::{Looks, Refused, Way, ROW, TABLE};
+use crate::{Looks, Refused, RefusedAt, Way, ROW, TABLE};
 
 /// An answer's number: a count or length in the low 16 bits, the refusal's number in the next 16, its line in the next 16.
 fn answer(code: u64) -> Result<usize, Refused> {
@@ -19,6 +19,15 @@ fn answer_about(code: u64, line: u32) -> Result<usize, Refused> {
 
 pub fn read_sheet(text: &[u8], table: &mut [u16; TABLE]) -> Result<usize, Refused> {
     answer(unsafe { rozsvelen_read_sheet(text.as_ptr(), text.len(), table.as_mut_ptr(), table.len()) })
+}
+
+/// An answer's number, whose refusal gives a place in the upper 16 bits.
+fn answer_at(code: u64) -> Result<usize, RefusedAt> {
+    answer(code).map_err(|no| RefusedAt { number: no.number, place: (code >> 48) as u32 })
+}
+
+pub fn read_formula(text: &[u8], table: &mut [u16; TABLE]) -> Result<usize, RefusedAt> {
+    answer_at(unsafe { rozsvelen_read_formula(text.as_ptr(), text.len(), table.as_mut_ptr(), table.len()) })
 }
 
 pub fn profile(table: &[u16; TABLE]) -> Result<[u16; TABLE], Refused> {

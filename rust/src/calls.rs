@@ -5,6 +5,7 @@ pub const BACK: u32 = 2;
 
 extern "C" {
     pub fn rozsvelen_read_sheet(text: *const u8, text_len: usize, table: *mut u16, table_len: usize) -> u64;
+    pub fn rozsvelen_read_formula(text: *const u8, text_len: usize, table: *mut u16, table_len: usize) -> u64;
     pub fn rozsvelen_profile(table: *const u16, table_len: usize, out: *mut u16, out_len: usize) -> u64;
     pub fn rozsvelen_in_profile(table: *const u16, table_len: usize) -> u64;
     pub fn rozsvelen_rule_looks(table: *const u16, table_len: usize) -> u64;

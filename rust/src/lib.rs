@@ -62,6 +62,40 @@ impl fmt::Display for Refused {
 
 impl Error for Refused {}
 
+/// A refusal of a formula: the number of the first question that got a no, and of 51 the place, counted from 0, of the first byte with which no
+/// formula can go on, or the text's length where it stops short.
+///
+/// ```
+/// use rozsvelen::RefusedAt;
+/// let no = RefusedAt { number: 51, place: 0 };
+/// assert_eq!(no.to_string(), "refused by question 51 at place 0: no formula can go on there");
+/// let no = RefusedAt { number: 52, place: 0 };
+/// assert_eq!(no.to_string(), "refused by question 52: more than 16 marks are open");
+/// ```
+#[derive(Clone, Copy, Debug, PartialEq, Eq)]
+pub struct RefusedAt {
+    /// The question's number, 50 to 54.
+    pub number: u8,
+    /// The place of 51, else 0.
+    pub place: u32,
+}
+
+impl fmt::Display for RefusedAt {
+    fn fmt(&self, f: &mut fmt::Formatter<'_>) -> fmt::Result {
+        write!(f, "refused by question {}", self.number)?;
+        match self.number {
+            50 => write!(f, ": more than 4,096 bytes"),
+            51 => write!(f, " at place {}: no formula can go on there", self.place),
+            52 => write!(f, ": more than 16 marks are open"),
+            53 => write!(f, ": its sheet would be too large"),
+            54 => write!(f, ": a path mark stands within an ahead or back step"),
+            _ => Ok(()),
+        }
+    }
+}
+
+impl Error for RefusedAt {}
+
 /// Which way the parts of a cut log are judged.
 #[derive(Clone, Copy, Debug, PartialEq, Eq)]
 pub enum Way {
@@ -115,6 +149,32 @@ impl Sheet {
     pub fn read(text: &[u8]) -> Result<Sheet, Refused> {
         let mut table = [0; TABLE];
         boundary::read_sheet(text, &mut table)?;
+        Ok(Sheet { table })
+    }
+
+    /// Reads a rule that is one line of text, a formula: the sheet made of it, or the first question that gets a no and its place. A formula is
+    /// `true`, a fact `f3`, `!`, `&`, `|`, brackets, or `<path>` or `[path]` before a formula; a path has steps `{formula}` ahead, `{formula}-` back,
+    /// `{formula}?` as a test, and `;`, `+`, `*`, brackets. There is no space and no LF. docs/FORMULAS.md says what it means and how the sheet is
+    /// numbered; the rule is the last node.
+    ///
+    /// ```
+    /// use rozsvelen::{holds, judge, Log, RefusedAt, Sheet, WORDS};
+    /// // fact 1, here or later
+    /// let sheet = Sheet::from_formula(b"<{true}*>f1").unwrap();
+    /// let by_hand = b"T\nT\nM,4,2\nG,3\nE,0,1,1,1\nE,2,0,0,0\nE,1,0,0,0\nE,1,0,0,3\nE,2,0,0,3\nP,1\nD,0,2\n";
+    /// assert_eq!(sheet, Sheet::read(by_hand).unwrap());
+    /// let log = Log::read(b"0\n1\n2\n").unwrap();
+    /// let mut verdicts = [0; 3 * WORDS];
+    /// assert_eq!(judge(&sheet, log.words(), &mut verdicts), Ok(2));
+    /// assert_eq!([0, 1, 2].map(|entry| holds(&verdicts, entry, 3)), [true, true, false]);
+    /// // no fact has number 32; the path is not closed; a path mark stands within a step
+    /// assert_eq!(Sheet::from_formula(b"f1|f32"), Err(RefusedAt { number: 51, place: 5 }));
+    /// assert_eq!(Sheet::from_formula(b"<{true}*"), Err(RefusedAt { number: 51, place: 8 }));
+    /// assert_eq!(Sheet::from_formula(b"<{<{f1}>f2}>f3"), Err(RefusedAt { number: 54, place: 0 }));
+    /// ```
+    pub fn from_formula(text: &[u8]) -> Result<Sheet, RefusedAt> {
+        let mut table = [0; TABLE];
+        boundary::read_formula(text, &mut table)?;
         Ok(Sheet { table })
     }
 

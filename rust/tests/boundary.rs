@@ -5,6 +5,8 @@ use rozsvelen::{holds, Sheet, ENTRIES, NODES, PAGE, ROW, TABLE, WORDS};
 #[path = "../src/calls.rs"]
 #[allow(dead_code)]
 mod calls;
+#[path = "boundary/formulas.rs"]
+mod formulas;
 #[path = "boundary/nodes.rs"]
 mod nodes;
 #[path = "boundary/printing.rs"]

@@ -1,4 +1,6 @@
-//! Random sheets, logs, rows and damage, from a seed.
+//! Random sheets, formulas, logs, rows and damage, from a seed.
+pub mod formulas;
+
 use crate::checker::sheets::{AUTOMATA_AT, COUNTS_AT, EDGES_AT, NODES, TABLE};
 
 /// A generator of numbers that is the same on every machine (SplitMix64).

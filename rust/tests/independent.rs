@@ -12,6 +12,7 @@ mod limits;
 use checker::meaning::{Judged, Row};
 use checker::sheets::{self, NODES};
 use compare::counters::{compare_entry, compare_steps};
+use compare::formulas::compare_formula;
 use compare::judging::{compare_judging, compare_plain_row};
 use compare::lists::{compare_logs, Logs};
 use compare::looks::compare_looks;
@@ -22,6 +23,7 @@ use compare::profile::compare_profile;
 use compare::texts::{compare_counted, compare_log, compare_sheet};
 use compare::walks::compare_walk;
 use compare::Table;
+use generate::formulas::{damaged_formula, formula};
 use generate::{counted_text, first_counter, largest_sheet, log, log_text, sheet, sheet_of, tangled_sheet, Looks, Random, Size};
 use generate::{perhaps_damaged, perhaps_damaged_table, perhaps_padded};
 use kinds::Kinds;
@@ -357,14 +359,23 @@ fn print_case(random: &mut Random, kinds: &mut Kinds) {
     compare_print(kinds, &Table::from_numbers(numbers), CAP);
 }
 
+/// A formula, and the same with damage, on a log of a few entries.
+fn formula_case(random: &mut Random, kinds: &mut Kinds) {
+    let text = formula(random);
+    let entries = 1 + random.below(8);
+    let words = log(random, entries);
+    compare_formula(kinds, text.as_bytes(), &words);
+    compare_formula(kinds, &damaged_formula(random, text), &words);
+}
+
 fn main() {
     let from = |name: &str, default: u64| std::env::var(name).ok().and_then(|v| v.parse().ok()).unwrap_or(default);
     let (cases, seed) = (from("ROZSVELEN_CASES", 200_000), from("ROZSVELEN_SEED", 1));
     let mut random = Random(seed);
-    // lists of logs, counters, profiles, spare automata and rules as text have numbers of their own: the other cases are the same with them and
-    // without them
+    // lists of logs, counters, profiles, spare automata, rules as text and formulas have numbers of their own: the other cases are the same with
+    // them and without them
     let [mut random_logs, mut random_counters, mut random_profiles] = [!seed, seed ^ 1 << 63, !seed ^ 1 << 63].map(Random);
-    let [mut random_spares, mut random_rules] = [seed ^ 1 << 62, !seed ^ 1 << 62].map(Random);
+    let [mut random_spares, mut random_rules, mut random_formulas] = [seed ^ 1 << 62, !seed ^ 1 << 62, seed ^ 1 << 61].map(Random);
     let mut kinds = Kinds::default();
     limits::all(&mut kinds);
     for case in 0..cases {
@@ -386,10 +397,10 @@ fn main() {
         match case % 9 {
             0 => print_case(&mut random_rules, &mut kinds),
             1 => counted_case(&mut random_counters, &mut kinds),
+            2 | 3 | 5 | 7 => formula_case(&mut random_formulas, &mut kinds),
             4 => profile_case(&mut random_profiles, &mut kinds),
             6 => spare_case(&mut random_spares, &mut kinds),
-            8 => logs_case(&mut random_logs, &mut kinds),
-            _ => (),
+            _ => logs_case(&mut random_logs, &mut kinds),
         }
     }
     print!("{kinds}");

@@ -1,6 +1,7 @@
-//! Sheets, profiles, what rules stand on, rules as text, logs, counters, lists of logs, pages and walks at the limits.
+//! Sheets, formulas, profiles, what rules stand on, rules as text, logs, counters, lists of logs, pages and walks at the limits.
 use crate::checker::sheets::NODES;
 use crate::compare::counters::{compare_entry, compare_steps};
+use crate::compare::formulas::compare_formula;
 use crate::compare::judging::compare_judging;
 use crate::compare::lists::{compare_logs, Logs};
 use crate::compare::looks::compare_looks;
@@ -11,6 +12,7 @@ use crate::compare::profile::compare_profile;
 use crate::compare::texts::{compare_counted, compare_log, compare_sheet};
 use crate::compare::walks::compare_walk;
 use crate::compare::Table;
+use crate::generate::formulas::long_rule;
 use crate::generate::{largest_sheet, log, log_text, Random};
 use crate::kinds::Kinds;
 use rozsvelen::PAGE;
@@ -20,6 +22,8 @@ const MODAL_STEP: &str = "T\nM,1,0\nE,0,0,0,0\nD,0,0\nM,1,0\nE,0,1,1,0\nT\n";
 
 pub fn all(kinds: &mut Kinds) {
     texts(kinds);
+    formulas(kinds);
+    short_formulas(kinds);
     profiles(kinds);
     rules_that_look(kinds);
     long_rules(kinds);
@@ -50,6 +54,55 @@ fn texts(kinds: &mut Kinds) {
         compare_log(kinds, "-\n".repeat(entries).as_bytes(), 600);
         compare_log(kinds, "0,31\n".repeat(entries).as_bytes(), 511);
         compare_page(kinds, b"P,31\n", "0,31\n".repeat(entries).as_bytes(), PAGE - 1);
+    }
+}
+
+/// Formulas with as many nodes, automata, states, edges, marks open and bytes as there may be, and with one more (of states two).
+fn formulas(kinds: &mut Kinds) {
+    let (facts, steps) = (["f31"; 65], ["{f1}-"; 9]);
+    let stars = "<{f0}*******>".repeat(8);
+    let mut texts: Vec<String> = [64, 65].map(|n| facts[..n].join("&")).to_vec();
+    texts.extend([126, 127, 1001, 4094, 4095].map(|n| "!".repeat(n) + "f1"));
+    texts.extend([16, 17].map(|n| "[{true}]".repeat(n) + "f1"));
+    for (sign, most) in [(";", 8), ("+", 4)] {
+        texts.extend([most, most + 1].map(|n| format!("<{}>f1", steps[..n].join(sign))));
+    }
+    texts.extend([7, 8].map(|n| format!("<{{f1}}?{}>f1", "*".repeat(n))));
+    // 29 edges each, 24 and 25 more, the same within a test of a ninth path, and twice as many
+    texts.extend(["<({f1}+{f2})****;{f3}>", "<({f1};{f2})*****;{f3}>"].map(|last| format!("{stars}{last}true")));
+    texts.extend(["{f1}*****", "{f1}*****;{f2}"].map(|last| format!("<{{{stars}f1}}?;{last}>true")));
+    texts.push(stars.repeat(2) + "true");
+    // no longer text fits a sheet
+    texts.push(long_rule(&["true"; 8 * 14 + 1], &[14; 8 * 14 + 1]));
+    for depth in [16, 17] {
+        texts.push("(".repeat(depth) + "f1" + &")".repeat(depth));
+        texts.push("(".repeat(depth) + "f1" + &")".repeat(depth - 1));
+        texts.push("<{".repeat(depth / 2) + &"(".repeat(depth % 2) + "f1" + &")".repeat(depth % 2) + &"}?>f2".repeat(depth / 2));
+        texts.extend(["{", "+", ")", "f1]", "f1}"].map(|behind| "(".repeat(depth) + behind));
+    }
+    for text in texts {
+        // by itself, and behind a path mark within a step, which is 54 where the text is not 50, 51 or 52
+        for before in ["", "[{<{f1}>f2}-]f3&"] {
+            compare_formula(kinds, format!("{before}{text}").as_bytes(), &[0, 1, 2, 3, 1 << 31]);
+        }
+    }
+}
+
+/// Every text of up to three of these words and signs: by itself, in brackets, as a step's formula, as a path and behind a step.
+fn short_formulas(kinds: &mut Kinds) {
+    let words = [
+        "", "tr", "true", "f", "f0", "f1", "f3", "0", "1", "2", "9", "!", "&", "|", "(", ")", "<", ">", "[", "]", "{", "}", "-", "?", ";", "+", "*",
+        "{f1}", "\n", "é",
+    ];
+    for a in words {
+        for b in words {
+            for c in words {
+                for (before, behind) in [("", ""), ("(", ")"), ("<{", "}>f2"), ("<", ">f2"), ("[{f1}", "]f2")] {
+                    let text = [before, a, b, c, behind].concat();
+                    compare_formula(kinds, text.as_bytes(), &[2, 1]);
+                }
+            }
+        }
     }
 }
 

@@ -9,3 +9,4 @@ pub mod Apart
 pub mod Runs
 pub mod Profiles
 pub mod RuleTexts
+pub mod FormulaTexts

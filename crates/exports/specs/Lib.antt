@@ -4,3 +4,4 @@ pub mod Lists
 pub mod Showing
 pub mod RuleTexts
 pub mod Runs
+pub mod FormulaTexts

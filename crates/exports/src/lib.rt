@@ -1,6 +1,7 @@
 // The calls for C and Rust: numbers and slices. Each answers one number (specs/Answers.antt, `answerCode`; a list of logs:
 // specs/Lists.antt, `listCode`; a length: specs/RuleTexts.antt, `lengthCode`); a table crosses as 1,507 numbers and a row as 128 (crossing's specs/Numbers.antt).
 mod answer;
+mod formulas;
 mod rules;
 
 use aldlf::Entry;

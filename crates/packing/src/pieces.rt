@@ -25,7 +25,7 @@ pub fn packed_edge(e: Edge) -> u32
 }
 
 // The edge in a number.
-pub(crate) fn edge_in(p: u32) -> Edge
+pub fn edge_in(p: u32) -> Edge
     ensures { λ r. ⌜ r ≡ edgeIn p ⌝ }
 {
     Edge {
@@ -37,14 +37,14 @@ pub(crate) fn edge_in(p: u32) -> Edge
 }
 
 // A node line as one number.
-pub(crate) fn packed_line(x: NodeLine) -> u32
+pub fn packed_line(x: NodeLine) -> u32
     ensures { λ r. ⌜ lineIn r ≡ x ⌝ }
 {
     (x.kind as u32) + 256 * (x.a as u32) + 65536 * (x.b as u32)
 }
 
 // The node line in a number.
-pub(crate) fn line_in(p: u32) -> NodeLine
+pub fn line_in(p: u32) -> NodeLine
     ensures { λ r. ⌜ r ≡ lineIn p ⌝ }
 {
     NodeLine {

@@ -130,7 +130,7 @@ fn with_accepting(t: Table, l: Line) -> Table
 }
 
 // The word that has only bit `a` set.
-fn power(a: u16) -> u16
+pub fn power(a: u16) -> u16
     requires { ⌜ a < stateLimit ⌝ }
     ensures { λ r. ⌜ r ≡ 2 ^ a ⌝ }
 {

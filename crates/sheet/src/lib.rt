@@ -1,5 +1,5 @@
 // Reading a rule sheet to its table (document 01's questions 1 to 11), and which tables some sheet gives (question 31).
-mod build;
+pub mod build;
 mod closing;
 pub mod empty;
 mod given;

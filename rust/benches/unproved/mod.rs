@@ -1,6 +1,7 @@
 //! Unproved versions of the library's jobs, written for speed, to compare the proved library with. All take the table's numbers and ask the same
 //! questions as the library does, so that the same work is timed.
 pub mod bitsets;
+pub mod formulas;
 pub mod given;
 pub mod printing;
 pub mod queue;

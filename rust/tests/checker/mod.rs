@@ -1,6 +1,8 @@
 //! A second checker, written from documents 01 and 02 alone and by other means than the product's: texts are split as strings, verdicts come from
 //! sets of configurations that are closed by repetition from each start, walks are enumerated by their length, each line of a profile comes by
 //! recursion from the old lines, what the rule stands on by recursion from the rule, and the rule's text by a stack of what is still to be written.
+//! Formulas (docs/FORMULAS.md with document 02) are read by stacks, and judged on the log by the sets of entries that paths lead to, without a sheet.
+pub mod formulas;
 pub mod logs;
 pub mod meaning;
 pub mod pages;

@@ -1,5 +1,6 @@
 //! Every call on one case by the product and by the independent checker: the same answer, and the same content of every lent buffer.
 pub mod counters;
+pub mod formulas;
 pub mod judging;
 pub mod lists;
 pub mod looks;

@@ -1,0 +1,10 @@
+pub mod Lists
+pub mod Pushed
+pub mod Lines
+pub mod Links
+pub mod PathEnds
+pub mod Turns
+pub mod Runs
+pub mod Live
+pub mod Limits
+pub mod Request

@@ -1,0 +1,46 @@
+-- `alt` meets its contract: four links around both sides, or a limit is passed. Assumes nothing.
+use borrow.Author.Needs.{needs}
+use Rattle.making.proofs.Links.{alt-drawn, alt-full}
+use Rattle.making.proofs.drawing.alt.Statement.{statement}
+use Rattle.making.proofs.drawing.alt.Tie as tie
+
+add-t12 : tie.Need-add-t12
+add-t12 c = search needs
+
+link-of-requires : tie.Need-link-of-requires
+link-of-requires c κs = search needs
+
+link-of-requires-2 : tie.Need-link-of-requires-2
+link-of-requires-2 c κs = search needs
+
+link-of-requires-3 : tie.Need-link-of-requires-3
+link-of-requires-3 c κs = search needs
+
+link-of-requires-4 : tie.Need-link-of-requires-4
+link-of-requires-4 c κs = search needs
+
+put-four-requires : tie.Need-put-four-requires
+put-four-requires c κs = search needs
+
+returns : tie.Need-returns
+returns c = alt-drawn (c .before .before .before .before .before .before .before .args .c) (c .put-four .result) (c .before .before .before .before .before .before .before .args .links .now) (c .put-four .last .0) (c .before .before .before .before .before .before .before .args .left) (c .before .before .before .before .before .link-of .result) (c .before .before .before .before .link-of2 .result) (c .before .before .before .link-of3 .result) (c .before .before .link-of4 .result) (c .before .before .before .before .before .before .if1 .taken) (c .before .before .before .before .before .link-of .ensures) (c .before .before .before .before .link-of2 .ensures) (c .before .before .before .link-of3 .ensures) (c .before .before .link-of4 .ensures) (c .put-four .ensures)
+
+killed-requires : tie.Need-killed-requires
+killed-requires c κs = search needs
+
+returns-2 : tie.Need-returns-2
+returns-2 c = alt-full (c .before .before .args .c) (c .killed .result) (c .before .before .args .links .now) (c .before .before .pre .1) (c .killed .ensures) (c .before .before .pre .0) (c .before .if1 .left) (c .before .before .args .left)
+
+pub alt-spec : {M : Type 1} → statement M
+alt-spec =
+    tie.close
+    (tie.spec
+    add-t12
+    link-of-requires
+    link-of-requires-2
+    link-of-requires-3
+    link-of-requires-4
+    put-four-requires
+    returns
+    killed-requires
+    returns-2)

@@ -1,0 +1,91 @@
+-- `end_path` meets its contract: the steps of a path's end, where there is room for an automaton. Assumes nothing.
+use borrow.Author.Needs.{needs}
+use Prim.Native.Nat.{_+_}
+use mathlib.Core.Path.{ap, sym, _∙_}
+use mathlib.Core.List.{List, _∷_}
+use native.Mathlib.Omega.{arith}
+use Rattle.making.specs.declared.stack.Kept.{Kept}
+use Prim.Native.Nat.{ℕ}
+use Rattle.making.specs.Work.{markKept}
+use Rattle.making.specs.Run.{letterOf}
+use Rattle.making.specs.Numbers.{keptOf}
+use Rattle.making.proofs.PathEnds.{room-yes, path-ended, path-refused}
+use Rattle.making.proofs.ending.end_path.Statement.{statement}
+use Rattle.making.proofs.ending.end_path.Tie as tie
+
+has-room-requires : tie.Need-has-room-requires
+has-room-requires c κs = search needs
+
+last-kept-requires : tie.Need-last-kept-requires
+last-kept-requires c κs = search needs
+
+below-requires : tie.Need-below-requires
+below-requires c κs = search needs
+
+cast-base : tie.Need-cast-base
+cast-base c = search needs
+
+cast-move-links : tie.Need-cast-move-links
+cast-move-links c = search needs
+
+cast-move-links-2 : tie.Need-cast-move-links-2
+cast-move-links-2 c = search needs
+
+sub-move-links : tie.Need-sub-move-links
+sub-move-links c = room-yes (c .before .before .before .before .before .before .before .before .before .before .args .c) (c .before .before .before .before .before .before .before .before .has-room .result) (c .before .before .before .before .before .before .before .before .has-room .ensures) (c .before .before .before .before .before .before .before .if1 .taken) .base
+
+move-links-requires : tie.Need-move-links-requires
+move-links-requires c κs = let h = room-yes (c .before .before .before .before .before .before .before .before .before .before .args .c) (c .before .before .before .before .before .before .before .before .has-room .result) (c .before .before .before .before .before .before .before .before .has-room .ensures) (c .before .before .before .before .before .before .before .if1 .taken) in (omega (arith, c .before .before .before .before .before .before .before .before .before .before .pre .1), omega (arith, c .before .before .before .before .before .before .before .before .before .before .pre .1), c .before .before .before .before .before .before .before .before .before .before .pre .2)
+
+letter-of-requires : tie.Need-letter-of-requires
+letter-of-requires c κs = search needs
+
+push-requires : tie.Need-push-requires
+push-requires c κs = search needs
+
+automaton-of-requires : tie.Need-automaton-of-requires
+automaton-of-requires c κs = sym (c .before .before .before .before .before .before .before .before .before .before .before .before .before .before .has-room .ensures) ∙ c .before .before .before .before .before .before .before .before .before .before .before .before .before .if1 .taken
+
+add-resumed : tie.Need-add-resumed
+add-resumed c = omega (arith, c .before .before .before .before .before .before .before .before .before .before .before .below .ensures .1, c .before .before .before .before .before .before .before .before .before .before .before .before .before .before .before .before .before .pre .0, c .before .before .before .before .before .before .before .before .before .before .before .before .before .before .before .before .before .good .1 .0)
+
+resumed-requires : tie.Need-resumed-requires
+resumed-requires c κs = (sym (c .before .before .before .before .before .before .before .before .before .before .before .before .before .before .before .has-room .ensures) ∙ c .before .before .before .before .before .before .before .before .before .before .before .before .before .before .if1 .taken, c .before .before .before .before .before .before .before .before .before .before .before .before .before .before .before .before .before .pre .1)
+
+same-length : tie.Need-same-length
+same-length c = search needs
+
+returns : tie.Need-returns
+returns c = path-ended (c .before .before .before .before .before .before .before .before .before .before .before .before .before .before .before .before .before .before .args .c) (c .before .before .before .before .before .before .before .before .before .before .before .before .before .before .before .before .before .before .args .links .now) (c .before .before .before .before .before .before .before .before .before .before .before .before .before .before .before .before .before .before .pre .2) (c .before .before .before .before .before .before .before .before .before .before .before .before .before .before .before .before .before .before .pre .1) (c .before .before .before .before .before .before .before .before .before .before .before .before .before .before .before .before .before .before .args .edges .now) (c .before .before .before .before .before .before .before .move-links .last .1 .0) (c .before .before .before .before .before .before .before .before .before .before .before .before .before .last-kept .result) (c .before .before .before .before .before .before .before .before .before .before .before .before .below .result + 1) (sym (c .before .before .before .before .before .before .before .before .before .before .before .before .before .before .before .before .has-room .ensures) ∙ c .before .before .before .before .before .before .before .before .before .before .before .before .before .before .before .if1 .taken) (c .before .before .before .before .before .before .before .move-links .ensures) (c .resumed .result) (c .before .automaton-of .result) (c .before .before .before .before .before .before .before .before .before .before .before .before .before .before .before .before .before .before .args .op) (c .before .before .before .before .before .before .before .before .before .before .before .before .before .before .before .before .before .before .args .stack .now) (c .before .before .before .before .push .last .0) (c .resumed .ensures) (c .before .automaton-of .ensures) (c .before .before .before .before .before .before .before .before .before .before .before .before .before .last-kept .ensures) (c .before .before .before .before .push .ensures ∙ ap (λ (l : ℕ). markKept l (c .before .before .before .before .before .before .before .before .before .before .before .before .before .before .before .before .before .before .args .c .automata) ∷ keptOf (c .before .before .before .before .before .before .before .before .before .before .before .before .before .before .before .before .before .before .args .stack .now) (c .before .before .before .before .before .before .before .before .before .before .before .before .below .result)) (c .before .before .before .before .before .before .letter-of .ensures) ∙ ap (λ (s : List Kept). markKept (letterOf (c .before .before .before .before .before .before .before .before .before .before .before .before .before .before .before .before .before .before .args .op)) (c .before .before .before .before .before .before .before .before .before .before .before .before .before .before .before .before .before .before .args .c .automata) ∷ s) (c .before .before .before .before .before .before .before .before .before .before .before .before .below .ensures .0 (c .before .before .before .before .before .before .before .before .before .before .before .before .before .before .before .before .before .before .args .stack .now))) (omega (arith, c .before .before .before .before .before .before .before .before .before .before .before .before .below .ensures .1))
+
+killed-requires : tie.Need-killed-requires
+killed-requires c κs = search needs
+
+no-automaton-requires : tie.Need-no-automaton-requires
+no-automaton-requires c κs = search needs
+
+returns-2 : tie.Need-returns-2
+returns-2 c = path-refused (c .before .before .before .before .before .args .c) (c .before .before .before .before .before .args .links .now) (c .before .before .before .before .before .pre .2) (c .before .before .before .before .before .pre .1) (c .before .killed .result) (c .no-automaton .result) (c .before .before .before .has-room .result) (c .before .before .before .before .before .args .op) (c .before .before .before .before .before .args .stack .now) (c .before .before .before .before .before .args .edges .now) (c .before .killed .ensures) (c .before .before .before .has-room .ensures) (c .before .before .if1 .left)
+
+pub end-path-spec : {M : Type 1} → statement M
+end-path-spec =
+    tie.close
+    (tie.spec
+    has-room-requires
+    last-kept-requires
+    below-requires
+    cast-base
+    cast-move-links
+    cast-move-links-2
+    sub-move-links
+    move-links-requires
+    letter-of-requires
+    push-requires
+    automaton-of-requires
+    add-resumed
+    resumed-requires
+    same-length
+    returns
+    killed-requires
+    no-automaton-requires
+    returns-2)

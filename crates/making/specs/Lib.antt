@@ -1,0 +1,4 @@
+pub mod Work
+pub mod Build
+pub mod Run
+pub mod Numbers
