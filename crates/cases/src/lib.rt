@@ -1,4 +1,8 @@
-// What the test programs share: cases that stand in a file, one to a line, their fields parted by `|`.
+// What the test programs share: cases that stand in a file, one to a line, their fields parted by `|`; and how tables are printed.
+pub mod sheets;
+pub mod show;
+pub mod zeros;
+
 ghost use mathlib.Core.Path.{_≡_};
 ghost use Prim.Native.Nat.{_≤_, _<_, min};
 ghost use lib.ListN.{length, getD};

@@ -6,5 +6,6 @@ pub mod PathEnds
 pub mod Turns
 pub mod Runs
 pub mod Live
+pub mod Passed
 pub mod Limits
 pub mod Request

@@ -1,10 +1,10 @@
 -- A node line more, and the instructions that make a node, by cases on whether a limit is passed.
 use Prim.Native.Nat.{ℕ, _+_, _-_, _≤_, _<_}
-use mathlib.Core.Path.{_≡_, refl, ap, sym, _∙_}
+use mathlib.Core.Path.{_≡_, refl, ap, _∙_}
 use mathlib.Core.Bool.{Bool, true, false}
-use mathlib.Core.List.{List, [], _∷_}
+use mathlib.Core.List.{List}
 use native.Mathlib.Omega.{arith}
-use lib.ListN.{length, set, length-set}
+use lib.ListN.{set, length-set}
 use borrow.Author.Tests.{eq-eqb, ne-eqb, lt-ltb, le-ltb}
 use Rattle.aldlf.specs.Constants.{nodeLimit, factLimit, letterT, letterP, letterN, letterA, letterO}
 use Rattle.aldlf.specs.declared.NodeLine.{NodeLine}
@@ -15,9 +15,9 @@ use Rattle.sheet.specs.Questions.{withNode}
 use Rattle.packing.specs.Numbers.{lineIn}
 use Rattle.making.specs.declared.stack.Kept.{Kept}
 use Rattle.making.specs.declared.counts.Counts.{Counts}
-use Rattle.making.specs.Work.{Outline, Made, over, live, grown, newestOf, under}
-use Rattle.making.specs.Run.{Bench, bench, lastOf, restOf, nodeOn}
-use Rattle.making.specs.Numbers.{keptOf, linesIn, tableIn, outlineIn, madeOf, workIn, benchIn, killedIn, toppedIn, Sized, Lined, NodeMade}
+use Rattle.making.specs.Work.{Outline, Made, over, grown, newestOf, under}
+use Rattle.making.specs.Run.{bench, lastOf, restOf, nodeOn}
+use Rattle.making.specs.Numbers.{keptOf, linesIn, tableIn, outlineIn, madeOf, killedIn, toppedIn, Lined, NodeMade}
 use Rattle.making.proofs.Lists.{map-set}
 
 -- the counts with a node more

@@ -2,12 +2,12 @@
 use Prim.Native.Nat.{ℕ, _+_, _-_, _≤_, _<_}
 use mathlib.Core.Path.{_≡_, refl, ap, sym, _∙_}
 use mathlib.Core.Bool.{Bool, true, false, _||_}
-use mathlib.Core.List.{List, [], _∷_, _++_}
+use mathlib.Core.List.{List, _∷_}
 use native.Mathlib.Omega.{arith}
 use lib.Dec.{eqb, ltb}
-use lib.ListN.{length, take, set, length-map, length-set}
+use lib.ListN.{length, take, set, length-set}
 use lib.Seq.{length-take-le}
-use borrow.Author.Tests.{eq-eqb, ne-eqb, lt-ltb, le-ltb, ltb-true, ltb-false}
+use borrow.Author.Tests.{ne-eqb, lt-ltb, le-ltb, ltb-true, ltb-false}
 use Rattle.aldlf.specs.Constants.{edgeLimit, letterN}
 use Rattle.aldlf.specs.declared.State.{State}
 use Rattle.aldlf.specs.declared.NodeLine.{NodeLine}
@@ -18,9 +18,9 @@ use Rattle.packing.specs.Numbers.{edgeIn}
 use Rattle.formula.specs.Numbering.{edgeOf, link, newest}
 use Rattle.making.specs.declared.stack.Kept.{Kept}
 use Rattle.making.specs.declared.counts.Counts.{Counts}
-use Rattle.making.specs.Work.{Outline, Made, over, live, newestOf, partOf, frameOf, begun, linked, ended, between, fourLinked, stepDrawn, seqDrawn, altDrawn, starDrawn}
-use Rattle.making.specs.Run.{Bench, bench, lastOf, restOf, keptBy, keptOn, begunOn, isStep, draws, dirOf, drawnOn}
-use Rattle.making.specs.Numbers.{keptOf, edgesIn, tableIn, outlineIn, madeOf, workIn, benchIn, killedIn, endedIn, toppedIn, Sized, Drawn, KeptMore, PathDrawn}
+use Rattle.making.specs.Work.{Outline, Made, over, newestOf, partOf, frameOf, begun, linked, ended, between, fourLinked, stepDrawn, seqDrawn, altDrawn, starDrawn}
+use Rattle.making.specs.Run.{bench, lastOf, restOf, keptBy, keptOn, begunOn, isStep, draws, dirOf, drawnOn}
+use Rattle.making.specs.Numbers.{keptOf, edgesIn, tableIn, outlineIn, madeOf, workIn, killedIn, endedIn, toppedIn, Sized, Drawn, KeptMore, PathDrawn}
 use Rattle.making.proofs.Lists.{stored, first-length}
 use Rattle.making.proofs.Lines.{bench-same}
 

@@ -1,19 +1,18 @@
 -- Where the sheet made of a formula is within the limits, what is made is live, and its table is the one that the formula makes. By induction over the formula.
 use Prim.Native.Nat.{ℕ, suc, _+_, _-_, _≤_, _<_, max}
-use mathlib.Core.Path.{_≡_, refl, ap, sym, _∙_}
+use mathlib.Core.Path.{_≡_, refl, ap, _∙_}
 use mathlib.Core.List.{List, [], _∷_, _++_, append-assoc}
 use mathlib.Core.Bool.{Bool, true, false, cond}
 use native.Mathlib.Omega.{arith}
 use native.Mathlib.Numerals.{add-one}
 use native.Mathlib.Nat.{le-trans, le-max-left, le-max-right}
-use lib.Dec.{eqb, ltb, leb}
-use lib.ListN.{length, take, drop, length-append}
+use lib.Dec.{eqb}
+use lib.ListN.{length, length-append}
 use lib.Seq.{take-append-seam, drop-append-seam}
 use borrow.Author.Tests.{lt-ltb, le-leb}
 use Rattle.aldlf.specs.Constants.{nodeLimit, automatonLimit, stateLimit, edgeLimit, letterT, letterP, letterN, letterA, letterO, letterD, letterB}
 use Rattle.aldlf.specs.declared.Edge.{Edge}
 use Rattle.aldlf.specs.declared.Table.{Table}
-use Rattle.sheet.specs.Questions.{withNode}
 use Rattle.formula.specs.Formula.{Formula, always, fact, neg, both, either, some, every, Path, step, seq, alt, many}
 use Rattle.formula.specs.Numbering as num
 use Rattle.formula.specs.Numbering.{within, states, own, entry, exit, dirNumber, edgeOf, link, edges, withLetter, newest, withPath, made, madeIn}
@@ -22,7 +21,7 @@ use Rattle.formula.specs.Counts.{automatonCount, automatonCountIn, edgeCount, e
 use Rattle.formula.proofs.Counts.{Adds, made-adds, in-adds}
 use Rattle.formula.proofs.Graph.{exit-in, own-length}
 use Rattle.making.specs.declared.stack.Kept.{Kept}
-use Rattle.making.specs.Work.{Outline, Made, over, live, grown, newestOf, automatonOf, under, partOf, frameOf, begun, linked, ended, between, fourLinked, stepDrawn, seqDrawn, altDrawn, starDrawn, roomFor, withOutline, emitted}
+use Rattle.making.specs.Work.{Outline, Made, live, grown, newestOf, automatonOf, under, partOf, frameOf, begun, linked, ended, between, fourLinked, stepDrawn, seqDrawn, altDrawn, starDrawn, roomFor, withOutline, emitted}
 use Rattle.making.specs.Build.{build, buildIn}
 
 -- a path in hand by its parts, and the ends of a path

@@ -2,26 +2,24 @@
 use Prim.Native.Nat.{ℕ, _+_, _-_, _^_, _≤_, _<_}
 use mathlib.Core.Path.{_≡_, refl, ap, sym, _∙_}
 use mathlib.Core.Bool.{Bool, true, false, _&&_}
-use mathlib.Core.List.{List, [], _∷_}
+use mathlib.Core.List.{List, _∷_}
 use native.Mathlib.Omega.{arith}
 use lib.Dec.{ltb, leb}
-use lib.ListN.{length, take, drop, set, length-map}
-use lib.Seq.{sets, take-take, length-sets, length-take-le}
+use lib.ListN.{length, take, drop, set}
+use lib.Seq.{sets, take-take, length-sets}
 use borrow.Author.Tests.{ne-eqb, ltb-true, leb-true}
 use Rattle.aldlf.specs.Constants.{automatonLimit, stateLimit, edgeLimit}
 use Rattle.aldlf.specs.declared.NodeLine.{NodeLine}
 use Rattle.aldlf.specs.declared.Edge.{Edge}
 use Rattle.aldlf.specs.declared.Automaton.{Automaton}
-use Rattle.aldlf.specs.declared.Table.{Table}
 use Rattle.packing.specs.Numbers.{edgeIn}
 use Rattle.sheet.proofs.Bools as bools
 use Rattle.making.specs.declared.stack.Kept.{Kept}
 use Rattle.making.specs.declared.counts.Counts.{Counts}
-use Rattle.making.specs.Work.{Outline, Made, over, live, automatonOf, markKept, roomFor, withOutline, emitted}
-use Rattle.making.specs.Run.{Bench, bench, lastOf, restOf, letterOf, emittedOn}
-use Rattle.making.specs.Numbers.{keptOf, edgesIn, tableIn, outlineIn, madeOf, workIn, benchIn, killedIn, roomIn, automatonIn, resumedIn, Sized, PathEnded}
+use Rattle.making.specs.Work.{over, live, automatonOf, markKept, roomFor, withOutline, emitted}
+use Rattle.making.specs.Run.{bench, lastOf, restOf, letterOf, emittedOn}
+use Rattle.making.specs.Numbers.{keptOf, edgesIn, tableIn, outlineIn, madeOf, killedIn, roomIn, automatonIn, resumedIn, Sized, PathEnded}
 use Rattle.making.proofs.Lists.{map-take, map-drop, map-sets, drop-take, first-length}
-use Rattle.making.proofs.Lines.{bench-same}
 
 pub letter-d : (k : ℕ) → k ≡ 62 → 68 ≡ letterOf k
 letter-d k e = rw e

@@ -1,11 +1,10 @@
 -- THE TABLE MADE FROM A FORMULA'S INSTRUCTIONS is the formula's, where it fits a sheet; else a limit is passed.
 use Prim.Native.Nat.{ℕ}
 use mathlib.Core.Path.{_≡_, refl, ap, sym, _∙_}
-use mathlib.Core.List.{List, [], _∷_, _++_, append-nil}
+use mathlib.Core.List.{List, [], append-nil}
 use mathlib.Core.Bool.{Bool, true, false, cond}
 use mathlib.Core.Logic.{⊎-elim}
 use native.Mathlib.Omega.{arith}
-use Rattle.aldlf.specs.declared.Table.{Table}
 use Rattle.sheet.specs.Questions.{withNode, emptyTable}
 use Rattle.formula.specs.Formula.{Formula}
 use Rattle.formula.specs.Numbering.{made, firstTable, tableOf}

@@ -13,7 +13,7 @@ use Rattle.formula.specs.Code.{codeTrue, codeKeep, codeAnd, codeOr, codeNot, co
 use Rattle.formula.proofs.Growing.{FactsIn, FactsOf}
 use Rattle.making.specs.declared.stack.Kept.{Kept}
 use Rattle.making.specs.Work.{Made, over, live, grown, newestOf, automatonOf, under, nodeKept, markKept, partOf, frameOf, begun, stepDrawn, seqDrawn, altDrawn, starDrawn, emitted}
-use Rattle.making.specs.Run.{Bench, bench, nodeOn, keptBy, drawnOn, emittedOn, execOn, exec, run}
+use Rattle.making.specs.Run.{bench, nodeOn, keptBy, drawnOn, emittedOn, execOn, exec, run}
 use Rattle.making.specs.Build.{build, buildIn}
 
 pub grown-over : (l x y : ℕ) → grown l x y over ≡ over

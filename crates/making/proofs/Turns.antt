@@ -1,5 +1,5 @@
 -- One turn of the loop over the instructions: what is left of them, run from where it stands, always comes to what all of them come to.
-use Prim.Native.Nat.{ℕ, suc, _+_, _≤_, _<_}
+use Prim.Native.Nat.{ℕ, _+_, _≤_, _<_}
 use mathlib.Core.Path.{_≡_, refl, ap, sym, _∙_}
 use mathlib.Core.Bool.{Bool, true, false}
 use mathlib.Core.List.{List, [], _∷_}
@@ -12,7 +12,6 @@ use Rattle.aldlf.specs.Constants.{nodeLimit, automatonLimit, edgeLimit, letterT
 use Rattle.aldlf.specs.Sheet.{noAutomaton}
 use Rattle.aldlf.specs.declared.Automaton.{Automaton}
 use Rattle.aldlf.specs.declared.Table.{Table}
-use Rattle.sheet.specs.Questions.{withNode}
 use Rattle.packing.specs.Numbers.{edgeIn}
 use Rattle.making.specs.declared.stack.Kept.{Kept}
 use Rattle.making.specs.declared.counts.Counts.{Counts}
@@ -160,18 +159,18 @@ module _ {code : List ℕ} {n : ℕ} {st ls ks es : List ℕ} {ms : List Automat
                 (is-none T O (keptOf st (c .top)) op (c .over) f (sym e ∙ h) (sym e₂ ∙ h₂) g (sym e₃ ∙ h₃) (sym e₄ ∙ h₄))
 
 -- BEFORE THE FIRST INSTRUCTION: node 0 is there, and nothing is kept
-first-work : (m : Automaton) → m ≡ noAutomaton
-    → grown letterT 0 0 (workIn noCounts (linesIn (replicate nodeLimit 0)) (replicate automatonLimit m) (edgesIn (replicate edgeLimit 0)) (edgesIn (replicate edgeLimit 0))) ≡ firstBench .made
+first-work : (ms : List Automaton) → ms ≡ replicate automatonLimit noAutomaton
+    → grown letterT 0 0 (workIn noCounts (linesIn (replicate nodeLimit 0)) ms (edgesIn (replicate edgeLimit 0)) (edgesIn (replicate edgeLimit 0))) ≡ firstBench .made
 unfolding grown
-first-work m e = rw e
+first-work ms e = rw e
 
 first-bench : (w : Made) (s : List Kept) → w ≡ firstBench .made → s ≡ [] → bench w s ≡ firstBench
 first-bench w s e g = bench-same e g
 
-pub first-stands : (code st ls : List ℕ) (m : Automaton) (c : Counts) → m ≡ noAutomaton → Lined (grown letterT 0 0) noCounts c (replicate nodeLimit 0) ls
-    → Stands code (length st) st ls (replicate edgeLimit 0) (replicate edgeLimit 0) (replicate automatonLimit m) c 0
+pub first-stands : (code st ls : List ℕ) (ms : List Automaton) (c : Counts) → ms ≡ replicate automatonLimit noAutomaton → Lined (grown letterT 0 0) noCounts c (replicate nodeLimit 0) ls
+    → Stands code (length st) st ls (replicate edgeLimit 0) (replicate edgeLimit 0) ms c 0
 unfolding keptOf
-first-stands code st ls m c e d =
+first-stands code st ls ms c e d =
     let z = d .top in
     record {
       within = omega arith;
@@ -183,8 +182,8 @@ first-stands code st ls m c e d =
       edges-long = length-replicate {A = ℕ} edgeLimit 0;
       going =
           ap (run code)
-          (first-bench (workIn c (linesIn ls) (replicate automatonLimit m) (edgesIn (replicate edgeLimit 0)) (edgesIn (replicate edgeLimit 0))) (keptOf st (c .top))
-          (d .work (replicate automatonLimit m) (edgesIn (replicate edgeLimit 0)) (edgesIn (replicate edgeLimit 0)) ∙ first-work m e)
+          (first-bench (workIn c (linesIn ls) ms (edgesIn (replicate edgeLimit 0)) (edgesIn (replicate edgeLimit 0))) (keptOf st (c .top))
+          (d .work ms (edgesIn (replicate edgeLimit 0)) (edgesIn (replicate edgeLimit 0)) ∙ first-work ms e)
           (ap (keptOf st) z));
     }
 

@@ -83,7 +83,7 @@ endedIn s a b c =
       over = c .over;
     }
 
--- The counts with what was kept last taken off.
+-- The counts with n numbers on the stack.
 abbrev pub toppedIn : ℕ → Counts → Counts
 toppedIn n c =
     record {

@@ -35,6 +35,7 @@ restOf (k ∷ s) = s
 abbrev pub makesNode : ℕ → Bool
 makesNode k = ltb k factLimit || eqb k codeTrue || eqb k codeAnd || eqb k codeOr || eqb k codeApply
 
+-- The node that one of them makes: `&`, `|` and `.` take what was kept last.
 unfoldable pub nodeOn : ℕ → Made → List Kept → Bench
 nodeOn k w s =
     cond (ltb k factLimit) (bench (grown letterP k 0 w) s)
@@ -47,9 +48,11 @@ nodeOn k w s =
 abbrev pub keeps : ℕ → Bool
 keeps k = eqb k codeKeep || eqb k codeNot || eqb k codeKeepPart
 
+-- What one of them keeps.
 unfoldable pub keptBy : ℕ → Made → Kept
 keptBy k w = cond (eqb k codeKeep) (nodeKept (newestOf w)) (cond (eqb k codeNot) (markKept letterN 0) (partOf w))
 
+-- It is kept on top.
 abbrev pub keptOn : ℕ → Made → List Kept → Bench
 keptOn k w s = bench w (keptBy k w ∷ s)
 
@@ -61,12 +64,15 @@ begunOn w s = bench (begun w) (frameOf w ∷ s)
 abbrev pub isStep : ℕ → Bool
 isStep k = eqb k (codeStep ahead) || eqb k (codeStep back) || eqb k (codeStep stay)
 
+-- Whether it is one of them.
 abbrev pub draws : ℕ → Bool
 draws k = isStep k || eqb k codeMany || eqb k codeSeq || eqb k codeAlt
 
+-- The direction of a step.
 abbrev pub dirOf : ℕ → ℕ
 dirOf k = cond (eqb k (codeStep ahead)) (dirNumber ahead) (cond (eqb k (codeStep back)) (dirNumber back) (dirNumber stay))
 
+-- What one of them draws: `;` and `+` take what was kept last for their left side.
 unfoldable pub drawnOn : ℕ → Made → List Kept → Bench
 drawnOn k w s =
     cond (isStep k) (bench (stepDrawn (dirOf k) w) s)
@@ -78,9 +84,11 @@ drawnOn k w s =
 abbrev pub endsPath : ℕ → Bool
 endsPath k = eqb k codeSome || eqb k codeEvery
 
+-- The letter of the path's mark.
 abbrev pub letterOf : ℕ → ℕ
 letterOf k = cond (eqb k codeSome) letterD letterB
 
+-- What one of them leaves: the outer path was kept last.
 unfoldable pub emittedOn : ℕ → Made → List Kept → Bench
 emittedOn k w s = let u = emitted (lastOf s) w in bench u (markKept (letterOf k) (automatonOf u) ∷ restOf s)
 

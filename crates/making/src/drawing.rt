@@ -21,12 +21,14 @@ ghost use Rattle.making.specs.Work.{linked, fourLinked, between, stepDra
 ghost use Rattle.making.specs.Run.{isStep, draws, dirOf, drawnOn};
 ghost use Rattle.making.specs.Numbers.{Sized, Drawn, PathDrawn};
 
+// Whether an instruction is a step: ahead, back or a test.
 fn is_step(op: u8) -> bool
     ensures { λ r. ⌜ r ≡ isStep op ⌝ }
 {
     (op == b'a') | (op == b'b') | (op == b't')
 }
 
+// Whether an instruction draws the path in hand.
 pub(crate) fn draws_path(op: u8) -> bool
     ensures { λ r. ⌜ r ≡ draws op ⌝ }
 {
@@ -73,7 +75,7 @@ fn put_link(links: &mut [u32; aldlf::EDGES], c: Counts, e: Edge) -> Counts
     killed(c)
 }
 
-// Four links between states, and the part is between the states s and s + 1 then.
+// Four links, in the order in which they are put.
 pub(crate) struct Four {
     pub(crate) e: Edge,
     pub(crate) f: Edge,
@@ -81,6 +83,7 @@ pub(crate) struct Four {
     pub(crate) h: Edge,
 }
 
+// The links are put one after the other. The part made last is between the states s and s + 1 then.
 fn put_four(links: &mut [u32; aldlf::EDGES], c: Counts, four: Four, s: u8) -> Counts
     requires { ⌜ Sized c × (length (now links) ≡ edgeLimit) × (s < 15) ⌝ }
     ensures { λ r. ⌜ Drawn (λ w. between s (fourLinked (four .e) (four .f) (four .g) (four .h) w)) c r (now (links .entry)) (now (links .exit)) ⌝ }

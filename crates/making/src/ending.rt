@@ -10,15 +10,15 @@ use aldlf::State;
 use sheet::build::power;
 use sheet::empty::no_automaton;
 ghost use mathlib.Core.Path.{_≡_};
-ghost use mathlib.Core.Bool.{true, _&&_};
+ghost use mathlib.Core.Bool.{true};
 ghost use Prim.Native.Nat.{_+_, _≤_, _<_};
-ghost use lib.Dec.{ltb, leb};
 ghost use lib.ListN.{length, take, drop};
 ghost use lib.Seq.{sets};
 ghost use Rattle.aldlf.specs.Constants.{edgeLimit};
 ghost use Rattle.making.specs.Run.{endsPath, letterOf, emittedOn};
 ghost use Rattle.making.specs.Numbers.{Sized, roomIn, automatonIn, resumedIn, PathEnded};
 
+// Whether an instruction ends a path.
 pub(crate) fn ends_path(op: u8) -> bool
     ensures { λ r. ⌜ r ≡ endsPath op ⌝ }
 {

@@ -9,7 +9,7 @@ use aldlf::State;
 ghost use mathlib.Core.Path.{_≡_};
 ghost use mathlib.Core.Bool.{false};
 ghost use mathlib.Core.List.{List};
-ghost use Prim.Native.Nat.{_+_, _<_, _≤_};
+ghost use Prim.Native.Nat.{_+_, _<_};
 ghost use lib.Dec.{ltb};
 ghost use lib.ListN.{length};
 ghost use Rattle.aldlf.specs.Constants.{edgeLimit};
@@ -19,6 +19,7 @@ ghost use Rattle.aldlf.specs.declared.Edge.{Edge};
 ghost use Rattle.making.specs.Run.{keeps, keptBy, keptOn, begunOn};
 ghost use Rattle.making.specs.Numbers.{workIn, Sized, KeptMore};
 
+// Whether an instruction only keeps something.
 pub(crate) fn keeps_something(op: u8) -> bool
     ensures { λ r. ⌜ r ≡ keeps op ⌝ }
 {
@@ -54,6 +55,7 @@ fn kept_by(op: u8, c: Counts) -> Kept
     }
 }
 
+// What it keeps is on the stack then.
 pub(crate) fn keep(op: u8, stack: &mut [u32], c: Counts) -> Counts
     requires { ⌜ (c .over ≡ false) × (c .top < length (now stack)) × Sized c ⌝ }
     ensures { λ r. ⌜ KeptMore (keptOn op) c r (now (stack .entry)) (now (stack .exit)) ⌝ }

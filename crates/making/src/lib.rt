@@ -37,6 +37,7 @@ pub fn make_table(code: &[u8]) -> Making
     make_long(code)
 }
 
+// The same of a few instructions, on a small stack.
 fn make_short(code: &[u8]) -> Making
     requires { ⌜ length (now code) ≤ 256 ⌝ }
     ensures { λ r. ⌜ r ≡ makingOf (run (now (code .entry)) firstBench .made) ⌝ }
@@ -45,6 +46,7 @@ fn make_short(code: &[u8]) -> Making
     run_code(code, &mut stack[..])
 }
 
+// The same of many.
 fn make_long(code: &[u8]) -> Making
     requires { ⌜ length (now code) ≤ 8192 ⌝ }
     ensures { λ r. ⌜ r ≡ makingOf (run (now (code .entry)) firstBench .made) ⌝ }

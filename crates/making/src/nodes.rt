@@ -16,6 +16,7 @@ ghost use Rattle.making.specs.Work.{grown, under};
 ghost use Rattle.making.specs.Run.{makesNode, nodeOn};
 ghost use Rattle.making.specs.Numbers.{Lined, NodeMade};
 
+// Whether an instruction makes a node. A number below 32 is a fact.
 pub(crate) fn makes_node(op: u8) -> bool
     ensures { λ r. ⌜ r ≡ makesNode op ⌝ }
 {

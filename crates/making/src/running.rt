@@ -26,9 +26,10 @@ use sheet::empty::no_line;
 ghost use mathlib.Core.Path.{_≡_};
 ghost use mathlib.Core.List.{List};
 ghost use Prim.Native.Nat.{_≤_};
-ghost use lib.ListN.{length};
+ghost use lib.ListN.{length, replicate};
 ghost use Rattle.aldlf.specs.declared.Edge.{Edge};
-ghost use Rattle.aldlf.specs.Constants.{nodeLimit, edgeLimit, letterT};
+ghost use Rattle.aldlf.specs.Constants.{nodeLimit, automatonLimit, edgeLimit, letterT};
+ghost use Rattle.aldlf.specs.Sheet.{noAutomaton};
 ghost use Rattle.making.specs.Work.{over, grown};
 ghost use Rattle.making.specs.Run.{run, firstBench, makingOf};
 ghost use Rattle.making.specs.Numbers.{linesIn, edgesIn, workIn, noCounts, Lined};
@@ -52,6 +53,27 @@ fn no_counts() -> Counts
     }
 }
 
+// The counts with node 0, which is T.
+fn first_counts(lines: &mut [u32; aldlf::NODES]) -> Counts
+    ensures { λ r. ⌜ Lined (grown letterT 0 0) noCounts r (now (lines .entry)) (now (lines .exit)) ⌝ }
+{
+    let c = no_counts();
+    let x = NodeLine {
+        kind: b'T',
+        a: 0,
+        b: 0,
+    };
+    put_line(lines, c, x)
+}
+
+// No place has an automaton yet.
+fn no_automata() -> [Automaton; aldlf::AUTOMATA]
+    ensures { λ r. ⌜ r ≡ replicate automatonLimit noAutomaton ⌝ }
+{
+    let m = no_automaton();
+    [m; aldlf::AUTOMATA]
+}
+
 // A limit is passed.
 fn refused() -> Making
     ensures { λ r. ⌜ r ≡ makingOf over ⌝ }
@@ -60,6 +82,7 @@ fn refused() -> Making
     Making { fits: false, table }
 }
 
+// The node lines in the numbers.
 fn lines_of(lines: &[u32; aldlf::NODES]) -> [NodeLine; aldlf::NODES]
     requires { ⌜ length (now lines) ≡ nodeLimit ⌝ }
     ensures { λ r. ⌜ r ≡ linesIn (now (lines .entry)) ⌝ }
@@ -74,6 +97,7 @@ fn lines_of(lines: &[u32; aldlf::NODES]) -> [NodeLine; aldlf::NODES]
     r
 }
 
+// The edges in the numbers.
 fn edges_of(edges: &[u32; aldlf::EDGES]) -> [Edge; aldlf::EDGES]
     requires { ⌜ length (now edges) ≡ edgeLimit ⌝ }
     ensures { λ r. ⌜ r ≡ edgesIn (now (edges .entry)) ⌝ }
@@ -117,7 +141,8 @@ fn finished(
     Making { fits: true, table }
 }
 
-// What the instructions come to, on a stack with a place for each of them.
+// What the instructions come to, on a stack with a place for each of them: each keeps at most one thing.
+// Only the arrays of this function hold the table, and each instruction is lent those that it changes: no table goes by value until the end.
 pub(crate) fn run_code(code: &[u8], stack: &mut [u32]) -> Making
     requires { ⌜ length (now code) ≤ length (now stack) ⌝ }
     ensures { λ r. ⌜ r ≡ makingOf (run (now (code .entry)) firstBench .made) ⌝ }
@@ -125,8 +150,7 @@ pub(crate) fn run_code(code: &[u8], stack: &mut [u32]) -> Making
     let mut lines = [0u32; aldlf::NODES];
     let mut links = [0u32; aldlf::EDGES];
     let mut edges = [0u32; aldlf::EDGES];
-    let m = no_automaton();
-    let mut automata = [m; aldlf::AUTOMATA];
+    let mut automata = no_automata();
     let mut c = first_counts(&mut lines);
     let mut i: usize = 0;
     while i < code.len() {
@@ -163,17 +187,4 @@ pub(crate) fn run_code(code: &[u8], stack: &mut [u32]) -> Making
         }
     }
     finished(c, &lines, automata, &edges)
-}
-
-// The counts with node 0, which is T.
-fn first_counts(lines: &mut [u32; aldlf::NODES]) -> Counts
-    ensures { λ r. ⌜ Lined (grown letterT 0 0) noCounts r (now (lines .entry)) (now (lines .exit)) ⌝ }
-{
-    let c = no_counts();
-    let x = NodeLine {
-        kind: b'T',
-        a: 0,
-        b: 0,
-    };
-    put_line(lines, c, x)
 }

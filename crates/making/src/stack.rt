@@ -31,6 +31,7 @@ fn packed_kept(k: Kept) -> u32
     })
 }
 
+// The four bytes in a number.
 fn kept_in(p: u32) -> Kept
     ensures { λ r. ⌜ r ≡ keptIn p ⌝ }
 {

@@ -8,10 +8,10 @@ use native.Mathlib.Numerals.{add-one}
 use lib.Dec.{eqb}
 use lib.ListN.{length, take, set, length-take, length-set}
 use lib.Seq.{take-suc-set}
-use borrow.Author.Tests.{lt-ltb, le-ltb}
+use borrow.Author.Tests.{lt-ltb, le-ltb, ne-eqb}
 use Rattle.aldlf.specs.Sheet.{stay}
 use Rattle.formula.specs.Code.{codeApply, codeStep}
-use Rattle.parsing.specs.Work.{Work, put, putIf, applied, ended, stepped}
+use Rattle.parsing.specs.Work.{Work, isSet, put, putIf, applied, ended, strayBy, stepped}
 
 module _ (n b : ℕ) (modal stray : Bool) (out : List ℕ) where
   abbrev worked : List ℕ → ℕ → Work
@@ -53,6 +53,32 @@ pub ended-is : (b : ℕ) {v : Work} (w : Work) → v ≡ put b w → record { by
 unfolding put ended
 ended-is b w h = ap (λ (z : Work). record { bytes = z .bytes; room = z .room; modal = true; stray = z .stray }) h
 
-pub stepped-is : (b : ℕ) {v : Work} (w : Work) → v ≡ put b w → record { bytes = v .bytes; room = v .room; modal = v .modal; stray = v .stray || (not (eqb b (codeStep stay)) && v .modal) } ≡ stepped b w
+pub stepped-is : (b : ℕ) {v : Work} (w : Work) (stray : Bool) → v ≡ put b w → stray ≡ strayBy b (v .modal) (v .stray) → record { bytes = v .bytes; room = v .room; modal = v .modal; stray = stray } ≡ stepped b w
 unfolding put stepped
-stepped-is b w h = ap (λ (z : Work). record { bytes = z .bytes; room = z .room; modal = z .modal; stray = z .stray || (not (eqb b (codeStep stay)) && z .modal) }) h
+stepped-is b {v} w stray h e =
+    ap (λ (z : Bool). record { bytes = v .bytes; room = v .room; modal = v .modal; stray = z }) e
+    ∙ ap (λ (z : Work). record { bytes = z .bytes; room = z .room; modal = z .modal; stray = strayBy b (z .modal) (z .stray) }) h
+
+-- whether a path mark is astray, case by case
+pub stray-test : (b : ℕ) (modal stray : Bool) → b ≡ 116 → stray ≡ strayBy b modal stray
+stray-test b modal stray e = rw e (no-more stray)
+  where
+    no-more : (x : Bool) → x ≡ x || false
+    no-more true = refl
+    no-more false = refl
+
+pub stray-plain : (b modal : ℕ) (stray : Bool) → modal ≡ 0 → stray ≡ strayBy b (isSet modal) stray
+stray-plain b modal stray e = rw e (none (not (eqb b 116)) stray)
+  where
+    none : (y x : Bool) → x ≡ x || (y && false)
+    none true true = refl
+    none false true = refl
+    none true false = refl
+    none false false = refl
+
+pub stray-step : (b modal : ℕ) (stray : Bool) → ¬ (b ≡ 116) → ¬ (modal ≡ 0) → true ≡ strayBy b (isSet modal) stray
+stray-step b modal stray e f = rw (ne-eqb b 116 e, ne-eqb modal 0 f) (all stray)
+  where
+    all : (x : Bool) → true ≡ x || true
+    all true = refl
+    all false = refl

@@ -15,7 +15,7 @@ use Rattle.formula.specs.Outcome.{stepsPlain}
 use Rattle.formula.specs.Code.{code}
 use Rattle.formula.proofs.Coding.{code-short}
 use Rattle.formula.proofs.Places.{read-iff}
-use Rattle.parsing.specs.Work.{Work}
+use Rattle.parsing.specs.Work.{Work, isSet}
 use Rattle.parsing.specs.Build.{build, Seen, gotOf}
 use Rattle.parsing.specs.Written.{codeLimit, Coded, coded, refused, codedBy, textCode, finished}
 use Rattle.parsing.proofs.Laws.{got-ok}
@@ -44,6 +44,13 @@ finish-all n p e f h = rw (got-ok p e, eq-eqb (p .at) n f, h)
 
 pub refused-is : (n p : ℕ) (xs : List ℕ) → 0 < n → cond (eqb n 0) (coded xs) (refused n p) ≡ refused n p
 refused-is n p xs l = rw (ne-eqb n 0 (λ e. omega arith))
+
+-- a mark that is kept as a number
+pub set-is : {n : ℕ} → ¬ (n ≡ 0) → isSet n ≡ true
+set-is {n} h = rw (ne-eqb n 0 h)
+
+pub unset-is : {n : ℕ} → n ≡ 0 → isSet n ≡ false
+unset-is h = rw h
 
 -- nothing is written yet
 abbrev pub noWork : Work

@@ -38,7 +38,7 @@ pub record Seen : Type 0 where
   pub work : Work
 
 abbrev pub seenOf : parse.Parse → List ℕ → Seen
-seenOf p out = record { number = p .number; at = p .at; work = workOf (p .writing) out }
+seenOf p out = record { number = p .number; at = p .at; work = workOf (record { length = p .length; modal = p .modal; stray = p .stray }) out }
 
 -- What it stands for.
 unfoldable pub gotOf : Seen → Got Work

@@ -15,9 +15,13 @@ pub record Work : Type 0 where
   pub modal : Bool
   pub stray : Bool
 
--- What the code's counter and the lent bytes stand for.
+-- A mark that is kept as a number.
+abbrev pub isSet : ℕ → Bool
+isSet n = not (eqb n 0)
+
+-- What the code's numbers and the lent bytes stand for.
 abbrev pub workOf : Writing → List ℕ → Work
-workOf w out = record { bytes = take (w .length) out; room = length out; modal = w .modal; stray = w .stray }
+workOf w out = record { bytes = take (w .length) out; room = length out; modal = isSet (w .modal); stray = isSet (w .stray) }
 
 -- One instruction more, where there is room for so many.
 abbrev pub putIn : (room b : ℕ) → List ℕ → List ℕ
@@ -44,6 +48,9 @@ masked w = record { bytes = w .bytes; room = w .room; modal = false; stray = w .
 unfoldable pub ended : ℕ → Work → Work
 ended b w = record { bytes = putIn (w .room) b (w .bytes); room = w .room; modal = true; stray = w .stray }
 
--- A step: a path mark in it is astray unless the step is a test.
+-- A path mark in a step is astray unless the step is a test.
+abbrev pub strayBy : ℕ → (modal stray : Bool) → Bool
+strayBy b modal stray = stray || (not (eqb b (codeStep stay)) && modal)
+
 unfoldable pub stepped : ℕ → Work → Work
-stepped b w = record { bytes = putIn (w .room) b (w .bytes); room = w .room; modal = w .modal; stray = w .stray || (not (eqb b (codeStep stay)) && w .modal) }
+stepped b w = record { bytes = putIn (w .room) b (w .bytes); room = w .room; modal = w .modal; stray = strayBy b (w .modal) (w .stray) }

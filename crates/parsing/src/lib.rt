@@ -35,8 +35,8 @@ pub fn write_code(text: &[u8], out: &mut [u8]) -> Written
     }
     let w = Writing {
         length: 0,
-        modal: false,
-        stray: false,
+        modal: 0,
+        stray: 0,
     };
     let p = parse::formula(text, 0, 17, w, out);
     finish(text.len(), p)
@@ -69,13 +69,12 @@ fn finish(length: usize, p: Parse) -> Written
     if at != length {
         return refusal(51, at as u16);
     }
-    let w = p.writing;
-    if w.stray {
+    if p.stray != 0 {
         return refusal(54, 0);
     }
     Written {
         number: 0,
         place: 0,
-        length: w.length,
+        length: p.length,
     }
 }

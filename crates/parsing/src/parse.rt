@@ -20,11 +20,14 @@ ghost use Rattle.formula.specs.Parse.{Prefix, mapGot, byte, isPrefix, atomAt, o
 ghost use Rattle.parsing.specs.Work.{workOf, applied, ended};
 ghost use Rattle.parsing.specs.Build.{build, buildIn, seenOf, gotOf, nextOf, followed, opened, endOf, steppedBy};
 
-// Number 0: what was read ends before `at`. 51: no formula goes on at `at`. 52: the mark before `at` is too deep.
+// Number 0: what was read ends before `at`, and the rest is as in `Writing`. 51: no formula goes on at `at`. 52: the mark before `at` is
+// too deep. Plain fields: a struct within a struct is copied as a block, which is slow to hand on.
 pub(crate) struct Parse {
-    pub(crate) number: u8,
+    pub(crate) number: usize,
     pub(crate) at: usize,
-    pub(crate) writing: Writing,
+    pub(crate) length: usize,
+    pub(crate) modal: usize,
+    pub(crate) stray: usize,
 }
 
 // The operators of a chain: the one that binds first, the other, and the instruction that keeps a left side.
@@ -101,12 +104,18 @@ fn ended_path(p: Parse, code: u8, out: &mut [u8]) -> Parse
     if number != 0 {
         return p;
     }
-    let w = p.writing;
+    let w = Writing {
+        length: p.length,
+        modal: p.modal,
+        stray: p.stray,
+    };
     let x = write_end(w, code, out);
     Parse {
         number: 0,
         at: p.at,
-        writing: x,
+        length: x.length,
+        modal: x.modal,
+        stray: x.stray,
     }
 }
 
@@ -118,12 +127,18 @@ fn applied_to(p: Parse, count: usize, out: &mut [u8]) -> Parse
     if number != 0 {
         return p;
     }
-    let w = p.writing;
+    let w = Writing {
+        length: p.length,
+        modal: p.modal,
+        stray: p.stray,
+    };
     let x = write_prefixes(w, count, out);
     Parse {
         number: 0,
         at: p.at,
-        writing: x,
+        length: x.length,
+        modal: x.modal,
+        stray: x.stray,
     }
 }
 
@@ -136,14 +151,20 @@ fn step_of(text: &[u8], p: Parse, out: &mut [u8]) -> Parse
         return p;
     }
     let at = p.at;
-    let w = p.writing;
+    let w = Writing {
+        length: p.length,
+        modal: p.modal,
+        stray: p.stray,
+    };
     let b = byte_at(text, at);
     if b == 45 {
         let x = write_step(w, b'b', out);
         return Parse {
             number: 0,
             at: at + 1,
-            writing: x,
+            length: x.length,
+            modal: x.modal,
+            stray: x.stray,
         };
     }
     if b == 63 {
@@ -151,14 +172,18 @@ fn step_of(text: &[u8], p: Parse, out: &mut [u8]) -> Parse
         return Parse {
             number: 0,
             at: at + 1,
-            writing: x,
+            length: x.length,
+            modal: x.modal,
+            stray: x.stray,
         };
     }
     let x = write_step(w, b'a', out);
     Parse {
         number: 0,
         at,
-        writing: x,
+        length: x.length,
+        modal: x.modal,
+        stray: x.stray,
     }
 }
 
@@ -170,7 +195,9 @@ pub(crate) fn formula(text: &[u8], start: usize, depth: u8, w0: Writing, out: &m
         return Parse {
             number: 52,
             at: start,
-            writing: w0,
+            length: 0,
+            modal: 0,
+            stray: 0,
         };
     }
     let by = Operators {
@@ -191,7 +218,11 @@ pub(crate) fn formula(text: &[u8], start: usize, depth: u8, w0: Writing, out: &m
             return p;
         }
         let to = p.at;
-        let x = p.writing;
+        let x = Writing {
+            length: p.length,
+            modal: p.modal,
+            stray: p.stray,
+        };
         let b = byte_at(text, to);
         let n = follow(x, h, by, b, out);
         let y = n.writing;
@@ -199,7 +230,9 @@ pub(crate) fn formula(text: &[u8], start: usize, depth: u8, w0: Writing, out: &m
             return Parse {
                 number: 0,
                 at: to,
-                writing: y,
+                length: y.length,
+                modal: y.modal,
+                stray: y.stray,
             };
         }
         at = to + 1;
@@ -227,7 +260,11 @@ fn operand(text: &[u8], start: usize, depth: u8, w0: Writing, out: &mut [u8]) ->
             return p;
         }
         at = p.at;
-        w = p.writing;
+        w = Writing {
+            length: p.length,
+            modal: p.modal,
+            stray: p.stray,
+        };
         count += 1;
     }
 }
@@ -243,7 +280,9 @@ fn prefix(text: &[u8], at: usize, depth: u8, w: Writing, out: &mut [u8]) -> Pars
         return Parse {
             number: 0,
             at: at + 1,
-            writing: x,
+            length: x.length,
+            modal: x.modal,
+            stray: x.stray,
         };
     }
     let begun = write(w, b'{', out);
@@ -272,7 +311,9 @@ fn path(text: &[u8], start: usize, depth: u8, w0: Writing, out: &mut [u8]) -> Pa
         return Parse {
             number: 52,
             at: start,
-            writing: w0,
+            length: 0,
+            modal: 0,
+            stray: 0,
         };
     }
     let by = Operators {
@@ -294,7 +335,11 @@ fn path(text: &[u8], start: usize, depth: u8, w0: Writing, out: &mut [u8]) -> Pa
             return p;
         }
         let to = p.at;
-        let x = p.writing;
+        let x = Writing {
+            length: p.length,
+            modal: p.modal,
+            stray: p.stray,
+        };
         let b = byte_at(text, to);
         let n = follow(x, h, by, b, out);
         let y = n.writing;
@@ -302,7 +347,9 @@ fn path(text: &[u8], start: usize, depth: u8, w0: Writing, out: &mut [u8]) -> Pa
             return Parse {
                 number: 0,
                 at: to,
-                writing: y,
+                length: y.length,
+                modal: y.modal,
+                stray: y.stray,
             };
         }
         at = to + 1;
@@ -329,6 +376,8 @@ fn piece(text: &[u8], at: usize, depth: u8, w: Writing, out: &mut [u8]) -> Parse
     Parse {
         number: 51,
         at,
-        writing: w,
+        length: 0,
+        modal: 0,
+        stray: 0,
     }
 }

@@ -47,18 +47,26 @@ pub(crate) fn close(text: &[u8], p: Parse, b: u16) -> Parse
     }
     let at = p.at;
     let x = byte_at(text, at);
-    let w = p.writing;
+    let w = Writing {
+        length: p.length,
+        modal: p.modal,
+        stray: p.stray,
+    };
     if x == b {
         return Parse {
             number: 0,
             at: at + 1,
-            writing: w,
+            length: w.length,
+            modal: w.modal,
+            stray: w.stray,
         };
     }
     Parse {
         number: 51,
         at,
-        writing: w,
+        length: 0,
+        modal: 0,
+        stray: 0,
     }
 }
 
@@ -76,7 +84,9 @@ pub(crate) fn simple(text: &[u8], at: usize, w: Writing, out: &mut [u8]) -> Pars
     Parse {
         number: 51,
         at,
-        writing: w,
+        length: 0,
+        modal: 0,
+        stray: 0,
     }
 }
 
@@ -89,28 +99,36 @@ fn truth(text: &[u8], at: usize, w: Writing, out: &mut [u8]) -> Parse
         return Parse {
             number: 51,
             at,
-            writing: w,
+            length: 0,
+            modal: 0,
+            stray: 0,
         };
     }
     if byte_at(text, at + 1) != 117 {
         return Parse {
             number: 51,
             at: at + 1,
-            writing: w,
+            length: 0,
+            modal: 0,
+            stray: 0,
         };
     }
     if byte_at(text, at + 2) != 101 {
         return Parse {
             number: 51,
             at: at + 2,
-            writing: w,
+            length: 0,
+            modal: 0,
+            stray: 0,
         };
     }
     let x = write(w, b'T', out);
     Parse {
         number: 0,
         at: at + 3,
-        writing: x,
+        length: x.length,
+        modal: x.modal,
+        stray: x.stray,
     }
 }
 
@@ -124,7 +142,9 @@ fn fact(text: &[u8], at: usize, w: Writing, out: &mut [u8]) -> Parse
         return Parse {
             number: 51,
             at,
-            writing: w,
+            length: 0,
+            modal: 0,
+            stray: 0,
         };
     }
     let c = byte_at(text, at + 1);
@@ -155,7 +175,9 @@ fn one_digit(at: usize, b: u16, w: Writing, out: &mut [u8]) -> Parse
     Parse {
         number: 0,
         at: at + 1,
-        writing: x,
+        length: x.length,
+        modal: x.modal,
+        stray: x.stray,
     }
 }
 
@@ -167,7 +189,9 @@ fn two_digits(at: usize, b: u16, c: u16, w: Writing, out: &mut [u8]) -> Parse
     Parse {
         number: 0,
         at: at + 2,
-        writing: x,
+        length: x.length,
+        modal: x.modal,
+        stray: x.stray,
     }
 }
 
@@ -180,7 +204,11 @@ pub(crate) fn stars(text: &[u8], p: Parse, out: &mut [u8]) -> Parse
         return p;
     }
     let mut at = p.at;
-    let mut w = p.writing;
+    let mut w = Writing {
+        length: p.length,
+        modal: p.modal,
+        stray: p.stray,
+    };
     while byte_at(text, at) == 42 {
         w = write(w, b'*', out);
         at += 1;
@@ -188,6 +216,8 @@ pub(crate) fn stars(text: &[u8], p: Parse, out: &mut [u8]) -> Parse
     Parse {
         number: 0,
         at,
-        writing: w,
+        length: w.length,
+        modal: w.modal,
+        stray: w.stray,
     }
 }

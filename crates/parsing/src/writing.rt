@@ -2,13 +2,14 @@
 ghost use mathlib.Core.Path.{_≡_};
 ghost use Prim.Native.Nat.{ℕ};
 ghost use mathlib.Core.List.{List};
-ghost use Rattle.parsing.specs.Work.{workOf, put, putIf, masked, ended, stepped, applied};
+ghost use Rattle.parsing.specs.Work.{isSet, workOf, put, putIf, masked, ended, strayBy, stepped, applied};
 
 // How many instructions are written; whether a path mark was read since the innermost `{`; whether one stood within an ahead or back step.
+// The two marks are 0 or 1 in whole words: a struct with padding is slow to hand on from call to call.
 pub(crate) struct Writing {
     pub(crate) length: usize,
-    pub(crate) modal: bool,
-    pub(crate) stray: bool,
+    pub(crate) modal: usize,
+    pub(crate) stray: usize,
 }
 
 // One instruction more.
@@ -57,7 +58,7 @@ pub(crate) fn write_end(w: Writing, code: u8, out: &mut [u8]) -> Writing
     let x = write(w, code, out);
     Writing {
         length: x.length,
-        modal: true,
+        modal: 1,
         stray: x.stray,
     }
 }
@@ -68,7 +69,7 @@ pub(crate) fn masked_at(w: Writing) -> Writing
 {
     Writing {
         length: w.length,
-        modal: false,
+        modal: 0,
         stray: w.stray,
     }
 }
@@ -81,6 +82,19 @@ pub(crate) fn write_step(w: Writing, code: u8, out: &mut [u8]) -> Writing
     Writing {
         length: x.length,
         modal: x.modal,
-        stray: x.stray | ((code != b't') & x.modal),
+        stray: stray_by(code, x.modal, x.stray),
     }
+}
+
+// Whether a path mark is astray, of the step or of one before it.
+fn stray_by(code: u8, modal: usize, stray: usize) -> usize
+    ensures { λ r. ⌜ isSet r ≡ strayBy code (isSet modal) (isSet stray) ⌝ }
+{
+    if code == b't' {
+        return stray;
+    }
+    if modal == 0 {
+        return stray;
+    }
+    1
 }

@@ -1,8 +1,8 @@
 // The calls, each on a table.
-use super::lines;
 use super::show;
-use super::tables;
 use aldlf::Table;
+use cases::show::number;
+use cases::show::put;
 use joblog::LogAnswer;
 use profile::ProfileCheck;
 ghost use Rattle.io.specs.Counts.{Counts};
@@ -14,34 +14,34 @@ const MOST: usize = 5;
 pub(crate) fn made(t: Table) {
     let a = profile::to_profile(t);
     let made = a.table;
-    show::number(a.number as u64);
+    number(a.number as u64);
     if a.number == 0 {
-        lines::sheet(made);
+        cases::sheets::sheet(made);
     } else {
-        tables::zeros(made);
+        cases::zeros::zeros(made);
     }
 }
 
 // Both calls, on a table that was changed.
 pub(crate) fn changed(t: Table) {
     made(t);
-    show::put(b", asked");
+    put(b", asked");
     asked(t);
 }
 
 // Whether a table is in the profile, and whether its profile is.
 pub(crate) fn asked(t: Table) {
     answered(profile::is_in_profile(t));
-    show::put(b", its profile");
+    put(b", its profile");
     answered(profile::is_in_profile(profile_of(t)));
 }
 
 fn answered(a: ProfileCheck) {
-    show::number(a.number as u64);
+    number(a.number as u64);
     if a.yes {
-        show::put(b" yes");
+        put(b" yes");
     } else {
-        show::put(b" no");
+        put(b" no");
     }
 }
 

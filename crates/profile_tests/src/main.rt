@@ -2,9 +2,10 @@
 // for node the line that is put in the table (its place, letter, a, b) and how many nodes are in use. `stdout` has what document 02
 // gives, worked by hand: a profile as the sheet that gives it, its lines parted by spaces.
 mod calls;
-mod lines;
 mod show;
 mod tables;
+
+use cases::show::put;
 
 fn main() {
     let mut input = io::large_buffer();
@@ -23,9 +24,9 @@ fn each(lines: &[u8]) {
 
 // A case's name and its outcome.
 fn case(line: &[u8]) {
-    show::put(cases::field(line, 1));
+    put(cases::field(line, 1));
     tried(line);
-    show::put(b"\n");
+    put(b"\n");
 }
 
 // What is tried: the profile, of a changed table too, the profile of the profile, the profile judged; else whether the sheet is in it.

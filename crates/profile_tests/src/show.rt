@@ -1,4 +1,6 @@
 // What is printed of an outcome.
+use cases::show::number;
+use cases::show::put;
 use judge::Judged;
 
 // The count held, or a refusal's number.
@@ -23,17 +25,4 @@ pub(crate) fn words(words: &[u64]) {
         number(words[i]);
         i += 1;
     }
-}
-
-pub(crate) fn number(n: u64) {
-    put(b" ");
-    digits(n);
-}
-
-pub(crate) fn digits(n: u64) {
-    io::print_decimal(libc::STDOUT_FILENO, n);
-}
-
-pub(crate) fn put(s: &[u8]) {
-    io::write_all(libc::STDOUT_FILENO, s);
 }

@@ -1,5 +1,4 @@
-// The tables of the cases: read from a sheet, changed, and all zeros.
-use super::show;
+// The tables of the cases: read from a sheet, and changed.
 use aldlf::NodeLine;
 use aldlf::Table;
 use aldlf::Used;
@@ -38,46 +37,4 @@ fn node(line: &[u8]) -> NodeLine {
 // A field as a number of 8 bits.
 fn byte(line: &[u8], k: usize) -> u8 {
     (cases::number(cases::field(line, k)) % 256) as u8
-}
-
-// Prints the counts and the first line's numbers, and whether all other places are zeros.
-pub(crate) fn zeros(t: Table) {
-    show::put(b" used");
-    show::number(t.used.nodes as u64);
-    show::number(t.used.automata as u64);
-    show::number(t.used.edges as u64);
-    first(t.nodes[0]);
-    rest(sheet::is_given(of_one_line(t)));
-}
-
-fn first(x: NodeLine) {
-    show::put(b" first");
-    show::number(x.kind as u64);
-    show::number(x.a as u64);
-    show::number(x.b as u64);
-}
-
-fn rest(zeros: bool) {
-    if zeros {
-        show::put(b" rest zeros");
-    } else {
-        show::put(b" rest not zeros");
-    }
-}
-
-// The table with `T` as its only line in use: a sheet gives it exactly where all other places are zeros.
-fn of_one_line(mut t: Table) -> Table {
-    let x = NodeLine {
-        kind: b'T',
-        a: 0,
-        b: 0,
-    };
-    let used = Used {
-        nodes: 1,
-        automata: 0,
-        edges: 0,
-    };
-    t.nodes[0] = x;
-    t.used = used;
-    t
 }

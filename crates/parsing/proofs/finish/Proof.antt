@@ -4,7 +4,7 @@ use native.Mathlib.Omega.{arith}
 use borrow.Author.Needs.{needs}
 use Rattle.parsing.specs.Build.{seenOf}
 use Rattle.parsing.specs.Written.{codedOf}
-use Rattle.parsing.proofs.Top.{finish-bad, finish-deep, finish-left, finish-stray, finish-all}
+use Rattle.parsing.proofs.Top.{finish-bad, finish-deep, finish-left, finish-stray, finish-all, set-is, unset-is}
 use Rattle.parsing.proofs.finish.Statement.{statement}
 use Rattle.parsing.proofs.finish.Tie as tie
 
@@ -36,11 +36,11 @@ refusal-requires-4 : tie.Need-refusal-requires-4
 refusal-requires-4 c κs = search needs
 
 returns-4 : tie.Need-returns-4
-returns-4 c = λ out. c .refusal4 .ensures out ∙ finish-stray (c .before .before .before .before .before .before .args .length) (seenOf (c .before .before .before .before .before .before .args .p) out) (omega arith) (omega arith) (c .before .if4 .taken)
+returns-4 c = λ out. c .refusal4 .ensures out ∙ finish-stray (c .before .before .before .before .before .before .args .length) (seenOf (c .before .before .before .before .before .before .args .p) out) (omega arith) (omega arith) (set-is (c .before .if4 .taken))
 
 returns-5 : tie.Need-returns-5
 unfolding codedOf
-returns-5 c = λ out. finish-all (c .before .before .before .before .before .args .length) (seenOf (c .before .before .before .before .before .args .p) out) (omega arith) (omega arith) (c .if4 .left)
+returns-5 c = λ out. finish-all (c .before .before .before .before .before .args .length) (seenOf (c .before .before .before .before .before .args .p) out) (omega arith) (omega arith) (unset-is (c .if4 .left))
 
 pub finish-spec : {M : Type 1} → statement M
 finish-spec =

@@ -23,13 +23,23 @@ put-four-requires : tie.Need-put-four-requires
 put-four-requires c κs = search needs
 
 returns : tie.Need-returns
-returns c = alt-drawn (c .before .before .before .before .before .before .before .args .c) (c .put-four .result) (c .before .before .before .before .before .before .before .args .links .now) (c .put-four .last .0) (c .before .before .before .before .before .before .before .args .left) (c .before .before .before .before .before .link-of .result) (c .before .before .before .before .link-of2 .result) (c .before .before .before .link-of3 .result) (c .before .before .link-of4 .result) (c .before .before .before .before .before .before .if1 .taken) (c .before .before .before .before .before .link-of .ensures) (c .before .before .before .before .link-of2 .ensures) (c .before .before .before .link-of3 .ensures) (c .before .before .link-of4 .ensures) (c .put-four .ensures)
+returns c =
+    let a = c .before .before .before .before .before .before .before .args in
+    let if1 = c .before .before .before .before .before .before .if1 in
+    let link-of = c .before .before .before .before .before .link-of in
+    let link-of2 = c .before .before .before .before .link-of2 in
+    let link-of3 = c .before .before .before .link-of3 in
+    let link-of4 = c .before .before .link-of4 in
+    alt-drawn (a .c) (c .put-four .result) (a .links .now) (c .put-four .last .0) (a .left) (link-of .result) (link-of2 .result) (link-of3 .result) (link-of4 .result) (if1 .taken) (link-of .ensures) (link-of2 .ensures) (link-of3 .ensures) (link-of4 .ensures) (c .put-four .ensures)
 
 killed-requires : tie.Need-killed-requires
 killed-requires c κs = search needs
 
 returns-2 : tie.Need-returns-2
-returns-2 c = alt-full (c .before .before .args .c) (c .killed .result) (c .before .before .args .links .now) (c .before .before .pre .1) (c .killed .ensures) (c .before .before .pre .0) (c .before .if1 .left) (c .before .before .args .left)
+returns-2 c =
+    let a = c .before .before .args in
+    let pre = c .before .before .pre in
+    alt-full (a .c) (c .killed .result) (a .links .now) (pre .1) (c .killed .ensures) (pre .0) (c .before .if1 .left) (a .left)
 
 pub alt-spec : {M : Type 1} → statement M
 alt-spec =

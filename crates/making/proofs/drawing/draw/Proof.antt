@@ -14,13 +14,19 @@ step-requires : tie.Need-step-requires
 step-requires c κs = search needs
 
 returns : tie.Need-returns
-returns c = path-step (c .before .before .before .before .before .before .args .c) (c .step .result) (c .before .before .before .before .before .before .args .stack .now) (c .before .before .before .before .before .before .args .links .now) (c .step .last .0) (c .before .before .before .before .before .before .args .op) (c .before .dir-of .result) (c .before .before .before .before .is-step .result) (c .before .before .before .before .is-step .ensures) (c .before .before .before .if1 .taken) (c .before .dir-of .ensures) (c .step .ensures)
+returns c =
+    let a = c .before .before .before .before .before .before .args in
+    let is-step = c .before .before .before .before .is-step in
+    let dir-of = c .before .dir-of in
+    path-step (a .c) (c .step .result) (a .stack .now) (a .links .now) (c .step .last .0) (a .op) (dir-of .result) (is-step .result) (is-step .ensures) (c .before .before .before .if1 .taken) (dir-of .ensures) (c .step .ensures)
 
 star-requires : tie.Need-star-requires
 star-requires c κs = search needs
 
 returns-2 : tie.Need-returns-2
-returns-2 c = path-star (c .before .before .before .before .before .before .args .c) (c .star .result) (c .before .before .before .before .before .before .args .stack .now) (c .before .before .before .before .before .before .args .links .now) (c .star .last .0) (c .before .before .before .before .before .before .args .op) (c .before .before .if2 .taken) (c .star .ensures)
+returns-2 c =
+    let a = c .before .before .before .before .before .before .args in
+    path-star (a .c) (c .star .result) (a .stack .now) (a .links .now) (c .star .last .0) (a .op) (c .before .before .if2 .taken) (c .star .ensures)
 
 last-kept-requires : tie.Need-last-kept-requires
 last-kept-requires c κs = search needs
@@ -32,16 +38,31 @@ with-top-requires : tie.Need-with-top-requires
 with-top-requires c κs = search needs
 
 seq-requires : tie.Need-seq-requires
-seq-requires c κs = (rw (c .before .before .with-top .ensures) (c .before .before .before .before .before .before .before .before .before .pre .1), c .before .before .before .before .before .before .before .before .before .pre .2)
+seq-requires c κs =
+    let pre = c .before .before .before .before .before .before .before .before .before .pre in
+    (rw (c .before .before .with-top .ensures) (pre .1), pre .2)
 
 returns-3 : tie.Need-returns-3
-returns-3 c = path-seq (c .before .before .before .before .before .before .before .before .before .before .args .c) (c .seq .result) (c .before .before .before .before .before .before .before .before .before .before .args .stack .now) (c .before .before .before .before .before .before .before .before .before .before .args .links .now) (c .seq .last .0) (c .before .before .before .before .before .before .before .before .before .before .args .op) (c .before .before .before .before .before .last-kept .result) (c .before .before .before .before .below .result) (c .before .before .before .before .before .last-kept .ensures) (c .before .before .before .before .below .ensures .0 (c .before .before .before .before .before .before .before .before .before .before .args .stack .now)) (c .before .before .before .before .below .ensures .1) (c .before .before .if3 .taken) (rw (c .before .before .before .with-top .ensures) at (c .seq .ensures))
+returns-3 c =
+    let a = c .before .before .before .before .before .before .before .before .before .before .args in
+    let last-kept = c .before .before .before .before .before .last-kept in
+    let below = c .before .before .before .before .below in
+    path-seq (a .c) (c .seq .result) (a .stack .now) (a .links .now) (c .seq .last .0) (a .op) (last-kept .result) (below .result) (last-kept .ensures) (below .ensures .0 (a .stack .now)) (below .ensures .1) (c .before .before .if3 .taken) (rw (c .before .before .before .with-top .ensures) at (c .seq .ensures))
 
 alt-requires : tie.Need-alt-requires
-alt-requires c κs = (rw (c .before .before .with-top .ensures) (c .before .before .before .before .before .before .before .before .before .pre .1), c .before .before .before .before .before .before .before .before .before .pre .2)
+alt-requires c κs =
+    let pre = c .before .before .before .before .before .before .before .before .before .pre in
+    (rw (c .before .before .with-top .ensures) (pre .1), pre .2)
 
 returns-4 : tie.Need-returns-4
-returns-4 c = path-alt (c .before .before .before .before .before .before .before .before .before .before .args .c) (c .alt .result) (c .before .before .before .before .before .before .before .before .before .before .args .stack .now) (c .before .before .before .before .before .before .before .before .before .before .args .links .now) (c .alt .last .0) (c .before .before .before .before .before .before .before .before .before .before .args .op) (c .before .before .before .before .before .last-kept .result) (c .before .before .before .before .below .result) (c .before .before .before .before .before .last-kept .ensures) (c .before .before .before .before .below .ensures .0 (c .before .before .before .before .before .before .before .before .before .before .args .stack .now)) (c .before .before .before .before .below .ensures .1) (c .before .before .before .before .before .before .before .before .is-step .result) (c .before .before .before .before .before .before .before .before .is-step .ensures) (c .before .before .before .before .before .before .before .if1 .left) (c .before .before .before .before .before .before .if2 .left) (c .before .before .if3 .left) (rw (c .before .before .before .with-top .ensures) at (c .alt .ensures))
+returns-4 c =
+    let a = c .before .before .before .before .before .before .before .before .before .before .args in
+    let is-step = c .before .before .before .before .before .before .before .before .is-step in
+    let if1 = c .before .before .before .before .before .before .before .if1 in
+    let if2 = c .before .before .before .before .before .before .if2 in
+    let last-kept = c .before .before .before .before .before .last-kept in
+    let below = c .before .before .before .before .below in
+    path-alt (a .c) (c .alt .result) (a .stack .now) (a .links .now) (c .alt .last .0) (a .op) (last-kept .result) (below .result) (last-kept .ensures) (below .ensures .0 (a .stack .now)) (below .ensures .1) (is-step .result) (is-step .ensures) (if1 .left) (if2 .left) (c .before .before .if3 .left) (rw (c .before .before .before .with-top .ensures) at (c .alt .ensures))
 
 pub draw-spec : {M : Type 1} → statement M
 draw-spec =

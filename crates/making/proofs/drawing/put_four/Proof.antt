@@ -27,7 +27,11 @@ with-ends-requires : tie.Need-with-ends-requires
 with-ends-requires c κs = search needs
 
 returns : tie.Need-returns
-returns c = drawn-ends (c .with-ends .result) (c .before .before .before .before .before .before .before .before .before .args .s + 2) (record { 0 = c .before .before .before .before .before .before .before .before .before .args .s }) (record { 0 = c .before .before .before .before .before .before .before .before .before .args .s + 1 }) (drawn-then (drawn-then (drawn-then (c .before .before .before .before .before .before .before .put-link .ensures) (c .before .before .before .before .before .put-link2 .ensures)) (c .before .before .before .put-link3 .ensures)) (c .before .put-link4 .ensures)) (c .with-ends .ensures)
+returns c =
+    let a = c .before .before .before .before .before .before .before .before .before .args in
+    let put-link = c .before .before .before .before .before .before .before .put-link in
+    let put-link2 = c .before .before .before .before .before .put-link2 in
+    drawn-ends (c .with-ends .result) (a .s + 2) (record { 0 = a .s }) (record { 0 = a .s + 1 }) (drawn-then (drawn-then (drawn-then (put-link .ensures) (put-link2 .ensures)) (c .before .before .before .put-link3 .ensures)) (c .before .put-link4 .ensures)) (c .with-ends .ensures)
 
 pub put-four-spec : {M : Type 1} → statement M
 put-four-spec =

@@ -18,19 +18,31 @@ mul-links : tie.Need-mul-links
 mul-links c = search needs
 
 element-write-links : tie.Need-element-write-links
-element-write-links c = let h = link-place (c .before .before .before .before .args .c) (c .before .before .before .link-room .result) (c .before .before .before .link-room .ensures) (c .before .before .if1 .taken) in omega arith
+element-write-links c =
+    let a = c .before .before .before .before .args in
+    let link-room = c .before .before .before .link-room in
+    let h = link-place (a .c) (link-room .result) (link-room .ensures) (c .before .before .if1 .taken) in omega arith
 
 add-x : tie.Need-add-x
 add-x c = search needs
 
 returns : tie.Need-returns
-returns c = drawn-link (c .before .before .before .before .before .args .c) (c .before .before .before .before .before .args .links .now) (c .before .before .before .before .before .pre .1) (c .before .packed-edge .result) (c .before .before .before .before .before .args .e) (link-place (c .before .before .before .before .before .args .c) (c .before .before .before .before .link-room .result) (c .before .before .before .before .link-room .ensures) (c .before .before .before .if1 .taken)) (c .before .packed-edge .ensures .1)
+returns c =
+    let a = c .before .before .before .before .before .args in
+    let pre = c .before .before .before .before .before .pre in
+    let link-room = c .before .before .before .before .link-room in
+    let packed-edge = c .before .packed-edge in
+    drawn-link (a .c) (a .links .now) (pre .1) (packed-edge .result) (a .e) (link-place (a .c) (link-room .result) (link-room .ensures) (c .before .before .before .if1 .taken)) (packed-edge .ensures .1)
 
 killed-requires : tie.Need-killed-requires
 killed-requires c κs = search needs
 
 returns-2 : tie.Need-returns-2
-returns-2 c = drawn-full (c .before .before .before .args .c) (c .before .before .before .args .links .now) (c .before .before .before .pre .1) (c .killed .result) (c .before .before .link-room .result) (c .before .before .before .args .e) (c .killed .ensures) (c .before .before .link-room .ensures) (c .before .if1 .left) (c .before .before .before .pre .0)
+returns-2 c =
+    let a = c .before .before .before .args in
+    let pre = c .before .before .before .pre in
+    let link-room = c .before .before .link-room in
+    drawn-full (a .c) (a .links .now) (pre .1) (c .killed .result) (link-room .result) (a .e) (c .killed .ensures) (link-room .ensures) (c .before .if1 .left) (pre .0)
 
 pub put-link-spec : {M : Type 1} → statement M
 put-link-spec =

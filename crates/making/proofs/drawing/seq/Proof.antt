@@ -14,7 +14,11 @@ with-ends-requires : tie.Need-with-ends-requires
 with-ends-requires c κs = search needs
 
 returns : tie.Need-returns
-returns c = seq-drawn (c .before .before .before .before .args .c) (c .with-ends .result) (c .before .before .before .before .args .links .now) (c .before .put-link .last .0) (c .before .before .before .before .args .left) (c .before .before .before .link-of .result) (c .before .before .before .link-of .ensures) (drawn-ends (c .with-ends .result) (c .before .before .before .before .args .c .states) (record { 0 = c .before .before .before .before .args .left .a }) (c .before .before .before .before .args .c .exit) (c .before .put-link .ensures) (c .with-ends .ensures))
+returns c =
+    let a = c .before .before .before .before .args in
+    let link-of = c .before .before .before .link-of in
+    let put-link = c .before .put-link in
+    seq-drawn (a .c) (c .with-ends .result) (a .links .now) (put-link .last .0) (a .left) (link-of .result) (link-of .ensures) (drawn-ends (c .with-ends .result) (a .c .states) (record { 0 = a .left .a }) (a .c .exit) (put-link .ensures) (c .with-ends .ensures))
 
 pub seq-spec : {M : Type 1} → statement M
 seq-spec = tie.close (tie.spec link-of-requires put-link-requires with-ends-requires returns)

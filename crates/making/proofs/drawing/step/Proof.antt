@@ -24,13 +24,21 @@ with-ends-requires : tie.Need-with-ends-requires
 with-ends-requires c κs = search needs
 
 returns : tie.Need-returns
-returns c = step-drawn (c .before .before .before .before .before .args .c) (c .with-ends .result) (c .before .before .before .before .before .args .links .now) (c .before .put-link .last .0) (c .before .before .before .before .before .args .dir) (c .before .before .before .newest .result) (c .before .before .before .newest .ensures) (c .before .before .before .before .if1 .taken) (drawn-ends (c .with-ends .result) (c .before .before .before .before .before .args .c .states + 2) (record { 0 = c .before .before .before .before .before .args .c .states }) (record { 0 = c .before .before .before .before .before .args .c .states + 1 }) (c .before .put-link .ensures) (c .with-ends .ensures))
+returns c =
+    let a = c .before .before .before .before .before .args in
+    let if1 = c .before .before .before .before .if1 in
+    let newest = c .before .before .before .newest in
+    let put-link = c .before .put-link in
+    step-drawn (a .c) (c .with-ends .result) (a .links .now) (put-link .last .0) (a .dir) (newest .result) (newest .ensures) (if1 .taken) (drawn-ends (c .with-ends .result) (a .c .states + 2) (record { 0 = a .c .states }) (record { 0 = a .c .states + 1 }) (put-link .ensures) (c .with-ends .ensures))
 
 killed-requires : tie.Need-killed-requires
 killed-requires c κs = search needs
 
 returns-2 : tie.Need-returns-2
-returns-2 c = step-full (c .before .before .args .c) (c .killed .result) (c .before .before .args .links .now) (c .before .before .pre .1) (c .killed .ensures) (c .before .before .pre .0) (c .before .if1 .left) (c .before .before .args .dir)
+returns-2 c =
+    let a = c .before .before .args in
+    let pre = c .before .before .pre in
+    step-full (a .c) (c .killed .result) (a .links .now) (pre .1) (c .killed .ensures) (pre .0) (c .before .if1 .left) (a .dir)
 
 pub step-spec : {M : Type 1} → statement M
 step-spec =

@@ -18,7 +18,10 @@ sub-t5 : tie.Need-sub-t5
 sub-t5 c = let h = room-is (c .before .before .before .before .before .args .c) (c .before .before .before .before .before .pre) .base in omega arith
 
 returns : tie.Need-returns
-returns c = automaton-by (c .before .before .before .before .before .args .c) (c .before .before .before .power .result) (c .before .before .before .power .ensures)
+returns c =
+    let a = c .before .before .before .before .before .args in
+    let power = c .before .before .before .power in
+    automaton-by (a .c) (power .result) (power .ensures)
 
 pub automaton-of-spec : {M : Type 1} → statement M
 automaton-of-spec = tie.close (tie.spec cast-power power-requires cast-t4 sub-t5 returns)

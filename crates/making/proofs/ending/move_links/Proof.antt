@@ -1,8 +1,7 @@
 -- `move_links` meets its contract: after i turns the first i links are stored. The measure is what is left of n. Assumes nothing.
-use Prim.Native.Nat.{_≤_, _-_}
+use Prim.Native.Nat.{_≤_, _-_, ℕ, _+_}
 use mathlib.Core.Path.{_≡_, ap, _∙_}
 use mathlib.Core.List.{List}
-use Prim.Native.Nat.{ℕ, _+_}
 use native.Mathlib.Omega.{arith}
 use lib.ListN.{take, drop, set, getD}
 use lib.Seq.{sets}
@@ -44,10 +43,16 @@ loop-less : tie.Need-loop-less Inv-loop μ-loop
 loop-less c = let h = c .before .before .loop .inv in omega (arith, c .before .before .before .pre)
 
 loop-again : tie.Need-loop-again Inv-loop μ-loop
-loop-again c = (ap (λ (z : List ℕ). set z (c .before .before .before .args .first + c .before .before .loop .i) (getD (c .before .before .before .args .links .now) (c .before .before .before .args .base + c .before .before .loop .i) 0)) (c .before .before .loop .inv .0) ∙ write-one (c .before .before .before .args .edges .now) (c .before .before .before .args .first) (c .before .before .before .args .base) (c .before .before .loop .i) (c .before .before .before .args .links .now) 0 (omega (arith, c .before .before .before .pre)), omega arith)
+loop-again c =
+    let a = c .before .before .before .args in
+    let loop = c .before .before .loop in
+    (ap (λ (z : List ℕ). set z (a .first + loop .i) (getD (a .links .now) (a .base + loop .i) 0)) (loop .inv .0) ∙ write-one (a .edges .now) (a .first) (a .base) (loop .i) (a .links .now) 0 (omega (arith, c .before .before .before .pre)), omega arith)
 
 returns : tie.Need-returns Inv-loop μ-loop
-returns c = c .before .loop .inv .0 ∙ ap (λ (k : ℕ). sets (c .before .before .args .edges .now) (c .before .before .args .first) (take k (drop (c .before .before .args .base) (c .before .before .args .links .now)))) (let z : c .before .loop .i ≡ c .before .before .args .n = omega arith in z)
+returns c =
+    let a = c .before .before .args in
+    let loop = c .before .loop in
+    loop .inv .0 ∙ ap (λ (k : ℕ). sets (a .edges .now) (a .first) (take k (drop (a .base) (a .links .now)))) (let z : loop .i ≡ a .n = omega arith in z)
 
 pub move-links-spec : {M : Type 1} → statement M
 move-links-spec =

@@ -12,7 +12,11 @@ push-requires : tie.Need-push-requires
 push-requires c κs = search needs
 
 cast-x : tie.Need-cast-x
-cast-x c = let h = link-place (c .before .before .before .before .before .before .before .before .args .c) (c .before .before .before .before .before .before .link-room .result) (c .before .before .before .before .before .before .link-room .ensures) (c .before .before .before .before .before .if1 .taken) in omega arith
+cast-x c =
+    let a = c .before .before .before .before .before .before .before .before .args in
+    let link-room = c .before .before .before .before .before .before .link-room in
+    let if1 = c .before .before .before .before .before .if1 in
+    let h = link-place (a .c) (link-room .result) (link-room .ensures) (if1 .taken) in omega arith
 
 add-x : tie.Need-add-x
 add-x c = search needs
@@ -21,13 +25,23 @@ same-length : tie.Need-same-length
 same-length c = search needs
 
 returns : tie.Need-returns
-returns c = begun-yes (c .before .before .before .before .before .before .before .before .args .c) (c .before .before .before .before .before .before .before .before .args .stack .now) (c .before .before .before .push .last .0) (c .before .before .before .before .before .before .link-room .result) (c .before .before .before .before .before .before .link-room .ensures) (c .before .before .before .before .before .if1 .taken) (c .before .before .before .before .before .before .before .before .pre .2) (c .before .before .before .push .ensures)
+returns c =
+    let a = c .before .before .before .before .before .before .before .before .args in
+    let pre = c .before .before .before .before .before .before .before .before .pre in
+    let link-room = c .before .before .before .before .before .before .link-room in
+    let if1 = c .before .before .before .before .before .if1 in
+    let push = c .before .before .before .push in
+    begun-yes (a .c) (a .stack .now) (push .last .0) (link-room .result) (link-room .ensures) (if1 .taken) (pre .2) (push .ensures)
 
 killed-requires : tie.Need-killed-requires
 killed-requires c κs = search needs
 
 returns-2 : tie.Need-returns-2
-returns-2 c = begun-no (c .before .before .before .before .args .c) (c .before .before .before .before .args .stack .now) (c .before .before .before .before .args .stack .now) (c .killed .result) (c .before .before .link-room .result) (c .killed .ensures) (c .before .before .link-room .ensures) (c .before .if1 .left) (c .before .before .before .before .pre .2)
+returns-2 c =
+    let a = c .before .before .before .before .args in
+    let pre = c .before .before .before .before .pre in
+    let link-room = c .before .before .link-room in
+    begun-no (a .c) (a .stack .now) (a .stack .now) (c .killed .result) (link-room .result) (c .killed .ensures) (link-room .ensures) (c .before .if1 .left) (pre .2)
 
 pub begin-spec : {M : Type 1} → statement M
 begin-spec =

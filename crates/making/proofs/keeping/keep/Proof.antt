@@ -20,7 +20,12 @@ same-length : tie.Need-same-length
 same-length c = search needs
 
 returns : tie.Need-returns
-returns c = keep-more (c .before .before .before .before .before .before .before .args .c) (c .before .before .before .before .before .before .before .args .op) (c .with-top .result) (c .before .before .before .before .before .kept-by .result) (c .before .before .before .before .before .before .before .args .stack .now) (c .before .before .before .push .last .0) (c .with-top .ensures) (c .before .before .before .before .before .before .before .pre .2) (c .before .before .before .before .before .kept-by .ensures) (c .before .before .before .push .ensures)
+returns c =
+    let a = c .before .before .before .before .before .before .before .args in
+    let pre = c .before .before .before .before .before .before .before .pre in
+    let kept-by = c .before .before .before .before .before .kept-by in
+    let push = c .before .before .before .push in
+    keep-more (a .c) (a .op) (c .with-top .result) (kept-by .result) (a .stack .now) (push .last .0) (c .with-top .ensures) (pre .2) (kept-by .ensures) (push .ensures)
 
 pub keep-spec : {M : Type 1} → statement M
 keep-spec =

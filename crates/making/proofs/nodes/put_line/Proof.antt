@@ -20,13 +20,18 @@ add-y : tie.Need-add-y
 add-y c = search needs
 
 returns : tie.Need-returns
-returns c = lined-yes (c .before .before .before .before .args .c) (c .before .before .before .before .args .lines .now) (c .before .before .before .before .args .x) (c .before .packed-line .result) (c .before .before .if1 .taken) (c .before .packed-line .ensures)
+returns c =
+    let a = c .before .before .before .before .args in
+    let packed-line = c .before .packed-line in
+    lined-yes (a .c) (a .lines .now) (a .x) (packed-line .result) (c .before .before .if1 .taken) (packed-line .ensures)
 
 killed-requires : tie.Need-killed-requires
 killed-requires c κs = search needs
 
 returns-2 : tie.Need-returns-2
-returns-2 c = lined-no (c .before .before .before .args .c) (c .before .before .before .args .lines .now) (c .before .before .before .args .x) (c .killed .result) (c .killed .ensures) (c .before .if1 .left)
+returns-2 c =
+    let a = c .before .before .before .args in
+    lined-no (a .c) (a .lines .now) (a .x) (c .killed .result) (c .killed .ensures) (c .before .if1 .left)
 
 pub put-line-spec : {M : Type 1} → statement M
 put-line-spec =

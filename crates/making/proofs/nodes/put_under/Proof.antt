@@ -11,13 +11,19 @@ put-leaf-requires : tie.Need-put-leaf-requires
 put-leaf-requires c κs = search needs
 
 returns : tie.Need-returns
-returns c = under-n (c .before .before .before .before .before .args .c) (c .put-leaf .result) (c .before .before .before .before .before .args .lines .now) (c .put-leaf .last .0) (c .before .before .before .before .before .args .k) (c .before .before .before .before .newest .result) (c .before .before .before .before .newest .ensures) (c .before .before .if1 .taken) (c .put-leaf .ensures)
+returns c =
+    let a = c .before .before .before .before .before .args in
+    let newest = c .before .before .before .before .newest in
+    under-n (a .c) (c .put-leaf .result) (a .lines .now) (c .put-leaf .last .0) (a .k) (newest .result) (newest .ensures) (c .before .before .if1 .taken) (c .put-leaf .ensures)
 
 put-pair-requires : tie.Need-put-pair-requires
 put-pair-requires c κs = search needs
 
 returns-2 : tie.Need-returns-2
-returns-2 c = under-other (c .before .before .before .before .before .args .c) (c .put-pair .result) (c .before .before .before .before .before .args .lines .now) (c .put-pair .last .0) (c .before .before .before .before .before .args .k) (c .before .before .before .before .newest .result) (c .before .before .before .before .newest .ensures) (c .before .before .if1 .left) (c .put-pair .ensures)
+returns-2 c =
+    let a = c .before .before .before .before .before .args in
+    let newest = c .before .before .before .before .newest in
+    under-other (a .c) (c .put-pair .result) (a .lines .now) (c .put-pair .last .0) (a .k) (newest .result) (newest .ensures) (c .before .before .if1 .left) (c .put-pair .ensures)
 
 pub put-under-spec : {M : Type 1} → statement M
 put-under-spec =

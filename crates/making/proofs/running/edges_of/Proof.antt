@@ -1,6 +1,6 @@
 -- `edges_of` meets its contract: after i turns the first i are read. The measure is what is left. Assumes nothing.
 use Prim.Native.Nat.{_≤_, _-_}
-use mathlib.Core.Path.{_≡_, ap, sym, _∙_}
+use mathlib.Core.Path.{_≡_, _∙_}
 use native.Mathlib.Omega.{arith}
 use lib.ListN.{length, take, length-set, length-replicate}
 use Rattle.packing.specs.Numbers.{edgeIn}
@@ -43,10 +43,16 @@ loop-less : tie.Need-loop-less Inv-loop μ-loop
 loop-less c = let h = c .before .before .before .loop .inv in omega arith
 
 loop-again : tie.Need-loop-again Inv-loop μ-loop
-loop-again c = (length-set (c .before .before .before .loop .r) (c .before .before .before .loop .i) (c .edge-in .result) ∙ c .before .before .before .loop .inv .0, omega arith, copied-one edgeIn (c .before .before .before .before .before .args .edges .now) (c .before .before .before .loop .r) (c .before .before .before .loop .i) (c .edge-in .result) 0 (omega (arith, c .before .before .before .before .before .pre)) (let h = c .before .before .before .loop .inv in omega arith) (c .before .before .before .loop .inv .2) (c .edge-in .ensures))
+loop-again c =
+    let a = c .before .before .before .before .before .args in
+    let pre = c .before .before .before .before .before .pre in
+    let loop = c .before .before .before .loop in
+    (length-set (loop .r) (loop .i) (c .edge-in .result) ∙ loop .inv .0, omega arith, copied-one edgeIn (a .edges .now) (loop .r) (loop .i) (c .edge-in .result) 0 (omega (arith, pre)) (let h = loop .inv in omega arith) (loop .inv .2) (c .edge-in .ensures))
 
 returns : tie.Need-returns Inv-loop μ-loop
-returns c = copied-all edgeIn (c .before .before .before .args .edges .now) (c .before .loop .r) (c .before .loop .i) 256 (c .before .before .before .pre) (c .before .loop .inv .0) (omega arith) (c .before .loop .inv .1) (c .before .loop .inv .2)
+returns c =
+    let loop = c .before .loop in
+    copied-all edgeIn (c .before .before .before .args .edges .now) (loop .r) (loop .i) 256 (c .before .before .before .pre) (loop .inv .0) (omega arith) (loop .inv .1) (loop .inv .2)
 
 pub edges-of-spec : {M : Type 1} → statement M
 edges-of-spec =

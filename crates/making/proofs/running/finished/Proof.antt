@@ -1,6 +1,6 @@
 -- `finished` meets its contract: the table read out of the numbers. Assumes nothing.
 use borrow.Author.Needs.{needs}
-use mathlib.Core.Path.{_≡_, ap, _∙_}
+use mathlib.Core.Path.{ap, _∙_}
 use mathlib.Core.List.{List}
 use Rattle.aldlf.specs.declared.Edge.{Edge}
 use Rattle.aldlf.specs.declared.NodeLine.{NodeLine}
@@ -13,7 +13,9 @@ refused-requires : tie.Need-refused-requires
 refused-requires c κs = search needs
 
 returns : tie.Need-returns
-returns c = λ (ks : List Edge). c .refused .ensures ∙ finish-over (c .before .before .args .c) (c .before .if1 .taken) (tableIn (c .before .before .args .c) (linesIn (c .before .before .args .lines .now)) (c .before .before .args .automata) (edgesIn (c .before .before .args .edges .now))) (outlineIn (c .before .before .args .c) ks)
+returns c =
+    let a = c .before .before .args in
+    λ (ks : List Edge). c .refused .ensures ∙ finish-over (a .c) (c .before .if1 .taken) (tableIn (a .c) (linesIn (a .lines .now)) (a .automata) (edgesIn (a .edges .now))) (outlineIn (a .c) ks)
 
 lines-of-requires : tie.Need-lines-of-requires
 lines-of-requires c κs = search needs
@@ -22,7 +24,10 @@ edges-of-requires : tie.Need-edges-of-requires
 edges-of-requires c κs = search needs
 
 returns-2 : tie.Need-returns-2
-returns-2 c = λ (ks : List Edge). finish-live (c .before .before .before .args .c .over) (tableIn (c .before .before .before .args .c) (linesIn (c .before .before .before .args .lines .now)) (c .before .before .before .args .automata) (edgesIn (c .before .before .before .args .edges .now))) (tableIn (c .before .before .before .args .c) (c .before .lines-of .result) (c .before .before .before .args .automata) (c .edges-of .result)) (outlineIn (c .before .before .before .args .c) ks) (c .before .before .if1 .left) (ap (λ (ns : List NodeLine). tableIn (c .before .before .before .args .c) ns (c .before .before .before .args .automata) (c .edges-of .result)) (c .before .lines-of .ensures) ∙ ap (λ (es : List Edge). tableIn (c .before .before .before .args .c) (linesIn (c .before .before .before .args .lines .now)) (c .before .before .before .args .automata) es) (c .edges-of .ensures))
+returns-2 c =
+    let a = c .before .before .before .args in
+    let lines-of = c .before .lines-of in
+    λ (ks : List Edge). finish-live (a .c .over) (tableIn (a .c) (linesIn (a .lines .now)) (a .automata) (edgesIn (a .edges .now))) (tableIn (a .c) (lines-of .result) (a .automata) (c .edges-of .result)) (outlineIn (a .c) ks) (c .before .before .if1 .left) (ap (λ (ns : List NodeLine). tableIn (a .c) ns (a .automata) (c .edges-of .result)) (lines-of .ensures) ∙ ap (λ (es : List Edge). tableIn (a .c) (linesIn (a .lines .now)) (a .automata) es) (c .edges-of .ensures))
 
 pub finished-spec : {M : Type 1} → statement M
 finished-spec =

@@ -1,10 +1,10 @@
 -- `run_code` meets its contract: what is left of the instructions always comes to what all of them come to. The measure is what is left of them. Assumes nothing.
 use borrow.Author.Needs.{needs}
 use Prim.Native.Nat.{_-_}
-use mathlib.Core.Path.{_≡_, _∙_}
+use mathlib.Core.Path.{_∙_}
 use native.Mathlib.Omega.{arith}
 use lib.ListN.{length}
-use Rattle.making.specs.Numbers.{linesIn, edgesIn}
+use Rattle.making.specs.Numbers.{edgesIn}
 use Rattle.making.proofs.Turns.{Stands, first-stands, turn-over, turn-last, turn-node, turn-kept, turn-begun, turn-drawn, turn-ended, turn-none}
 use Rattle.making.proofs.running.run_code.Statement.{statement}
 use Rattle.making.proofs.running.run_code.Tie as tie
@@ -15,14 +15,17 @@ Inv-loop code stack₀ lines₀ links₀ edges₀ automata₀ c₀ i₀ stack li
 abbrev μ-loop : tie.MeasureT-loop
 μ-loop code stack₀ lines₀ links₀ edges₀ automata₀ c₀ i₀ stack lines links edges automata c i = length code - i
 
-no-automaton-requires : tie.Need-no-automaton-requires Inv-loop μ-loop
-no-automaton-requires c κs = tt
+no-automata-requires : tie.Need-no-automata-requires Inv-loop μ-loop
+no-automata-requires c κs = tt
 
 first-counts-requires : tie.Need-first-counts-requires Inv-loop μ-loop
 first-counts-requires c κs = tt
 
 loop-holds : tie.Need-loop-holds Inv-loop μ-loop
-loop-holds c = first-stands (c .before .before .before .before .before .args .code .now) (c .before .before .before .before .before .args .stack .now) (c .first-counts .last .0) (c .before .before .no-automaton .result) (c .first-counts .result) (c .before .before .no-automaton .ensures) (c .first-counts .ensures)
+loop-holds c =
+    let a = c .before .before .before .before .before .args in
+    let no-automata = c .before .before .no-automata in
+    first-stands (a .code .now) (a .stack .now) (c .first-counts .last .0) (no-automata .result) (c .first-counts .result) (no-automata .ensures) (c .first-counts .ensures)
 
 refused-requires : tie.Need-refused-requires Inv-loop μ-loop
 refused-requires c κs = tt
@@ -43,46 +46,110 @@ makes-node-requires : tie.Need-makes-node-requires Inv-loop μ-loop
 makes-node-requires c κs = tt
 
 make-node-requires : tie.Need-make-node-requires Inv-loop μ-loop
-make-node-requires c κs = let h = c .before .before .before .before .before .before .before .loop .inv in let l = c .before .before .before .before .before .before .loop-test .taken in omega (arith, h .top, h .stack-long, h .within, l, c .before .before .before .before .before .before .before .before .before .before .before .before .before .pre)
+make-node-requires c κs =
+    let pre = c .before .before .before .before .before .before .before .before .before .before .before .before .before .pre in
+    let loop = c .before .before .before .before .before .before .before .loop in
+    let loop-test = c .before .before .before .before .before .before .loop-test in
+    let h = loop .inv in let l = loop-test .taken in omega (arith, h .top, h .stack-long, h .within, l, pre)
 
 loop-less : tie.Need-loop-less Inv-loop μ-loop
-loop-less c = let h = c .before .before .before .before .before .before .before .before .loop .inv in let l = c .before .before .before .before .before .before .before .loop-test .taken in omega (arith, h .within, l)
+loop-less c =
+    let loop = c .before .before .before .before .before .before .before .before .loop in
+    let loop-test = c .before .before .before .before .before .before .before .loop-test in
+    let h = loop .inv in let l = loop-test .taken in omega (arith, h .within, l)
 
 loop-again : tie.Need-loop-again Inv-loop μ-loop
-loop-again c = turn-node (c .before .before .before .before .before .before .before .before .loop .inv) (c .before .before .before .before .before .before .before .loop-test .taken) (c .before .before .before .before .before .before .if1 .left) (c .before .before .before .before .makes-node .result) (c .before .before .before .before .makes-node .ensures) (c .before .before .before .if2 .taken) (c .make-node .ensures)
+loop-again c =
+    let loop = c .before .before .before .before .before .before .before .before .loop in
+    let loop-test = c .before .before .before .before .before .before .before .loop-test in
+    let if1 = c .before .before .before .before .before .before .if1 in
+    let makes-node = c .before .before .before .before .makes-node in
+    turn-node (loop .inv) (loop-test .taken) (if1 .left) (makes-node .result) (makes-node .ensures) (c .before .before .before .if2 .taken) (c .make-node .ensures)
 
 keeps-something-requires : tie.Need-keeps-something-requires Inv-loop μ-loop
 keeps-something-requires c κs = tt
 
 keep-requires : tie.Need-keep-requires Inv-loop μ-loop
-keep-requires c κs = (c .before .before .before .before .before .before .if1 .left, (let h = c .before .before .before .before .before .before .before .before .loop .inv in let l = c .before .before .before .before .before .before .before .loop-test .taken in omega (arith, h .top, h .stack-long, h .within, l, c .before .before .before .before .before .before .before .before .before .before .before .before .before .before .pre)), c .before .before .before .before .before .before .before .before .loop .inv .sized)
+keep-requires c κs =
+    let pre = c .before .before .before .before .before .before .before .before .before .before .before .before .before .before .pre in
+    let loop = c .before .before .before .before .before .before .before .before .loop in
+    let loop-test = c .before .before .before .before .before .before .before .loop-test in
+    let if1 = c .before .before .before .before .before .before .if1 in
+    (if1 .left, (let h = loop .inv in let l = loop-test .taken in omega (arith, h .top, h .stack-long, h .within, l, pre)), loop .inv .sized)
 
 loop-less-2 : tie.Need-loop-less-2 Inv-loop μ-loop
-loop-less-2 c = let h = c .before .before .before .before .before .before .before .before .before .before .before .loop .inv in let l = c .before .before .before .before .before .before .before .before .before .before .loop-test .taken in omega (arith, h .within, l)
+loop-less-2 c =
+    let loop = c .before .before .before .before .before .before .before .before .before .before .before .loop in
+    let loop-test = c .before .before .before .before .before .before .before .before .before .before .loop-test in
+    let h = loop .inv in let l = loop-test .taken in omega (arith, h .within, l)
 
 loop-again-2 : tie.Need-loop-again-2 Inv-loop μ-loop
-loop-again-2 c = turn-kept (c .before .before .before .before .before .before .before .before .before .before .before .loop .inv) (c .before .before .before .before .before .before .before .before .before .before .loop-test .taken) (c .before .before .before .before .before .before .before .before .before .if1 .left) (c .before .before .before .before .before .before .before .makes-node .result) (c .before .before .before .before .before .before .before .makes-node .ensures) (c .before .before .before .before .before .before .if2 .left) (c .before .before .before .before .before .keeps-something .result) (c .before .before .before .before .before .keeps-something .ensures) (c .before .before .before .before .if3 .taken) (c .before .before .keep .kept .1 .0) (c .before .before .keep .ensures)
+loop-again-2 c =
+    let loop = c .before .before .before .before .before .before .before .before .before .before .before .loop in
+    let loop-test = c .before .before .before .before .before .before .before .before .before .before .loop-test in
+    let if1 = c .before .before .before .before .before .before .before .before .before .if1 in
+    let makes-node = c .before .before .before .before .before .before .before .makes-node in
+    let if2 = c .before .before .before .before .before .before .if2 in
+    let keeps-something = c .before .before .before .before .before .keeps-something in
+    let if3 = c .before .before .before .before .if3 in
+    let keep = c .before .before .keep in
+    turn-kept (loop .inv) (loop-test .taken) (if1 .left) (makes-node .result) (makes-node .ensures) (if2 .left) (keeps-something .result) (keeps-something .ensures) (if3 .taken) (keep .kept .1 .0) (keep .ensures)
 
 begin-requires : tie.Need-begin-requires Inv-loop μ-loop
-begin-requires c κs = (c .before .before .before .before .before .before .before .if1 .left, (let h = c .before .before .before .before .before .before .before .before .before .loop .inv in let l = c .before .before .before .before .before .before .before .before .loop-test .taken in omega (arith, h .top, h .stack-long, h .within, l, c .before .before .before .before .before .before .before .before .before .before .before .before .before .before .before .pre)), c .before .before .before .before .before .before .before .before .before .loop .inv .sized)
+begin-requires c κs =
+    let pre = c .before .before .before .before .before .before .before .before .before .before .before .before .before .before .before .pre in
+    let loop = c .before .before .before .before .before .before .before .before .before .loop in
+    let loop-test = c .before .before .before .before .before .before .before .before .loop-test in
+    let if1 = c .before .before .before .before .before .before .before .if1 in
+    (if1 .left, (let h = loop .inv in let l = loop-test .taken in omega (arith, h .top, h .stack-long, h .within, l, pre)), loop .inv .sized)
 
 loop-less-3 : tie.Need-loop-less-3 Inv-loop μ-loop
-loop-less-3 c = let h = c .before .before .before .before .before .before .before .before .before .before .before .before .loop .inv in let l = c .before .before .before .before .before .before .before .before .before .before .before .loop-test .taken in omega (arith, h .within, l)
+loop-less-3 c =
+    let loop = c .before .before .before .before .before .before .before .before .before .before .before .before .loop in
+    let loop-test = c .before .before .before .before .before .before .before .before .before .before .before .loop-test in
+    let h = loop .inv in let l = loop-test .taken in omega (arith, h .within, l)
 
 loop-again-3 : tie.Need-loop-again-3 Inv-loop μ-loop
-loop-again-3 c = turn-begun (c .before .before .before .before .before .before .before .before .before .before .before .before .loop .inv) (c .before .before .before .before .before .before .before .before .before .before .before .loop-test .taken) (c .before .before .before .before .before .before .before .before .before .before .if1 .left) (c .before .before .before .before .before .before .before .before .makes-node .result) (c .before .before .before .before .before .before .before .before .makes-node .ensures) (c .before .before .before .before .before .before .before .if2 .left) (c .before .before .before .before .before .before .keeps-something .result) (c .before .before .before .before .before .before .keeps-something .ensures) (c .before .before .before .before .before .if3 .left) (c .before .before .before .before .if4 .taken) (c .before .before .begin .kept .0) (c .before .before .begin .ensures)
+loop-again-3 c =
+    let loop = c .before .before .before .before .before .before .before .before .before .before .before .before .loop in
+    let loop-test = c .before .before .before .before .before .before .before .before .before .before .before .loop-test in
+    let if1 = c .before .before .before .before .before .before .before .before .before .before .if1 in
+    let makes-node = c .before .before .before .before .before .before .before .before .makes-node in
+    let if2 = c .before .before .before .before .before .before .before .if2 in
+    let keeps-something = c .before .before .before .before .before .before .keeps-something in
+    let if3 = c .before .before .before .before .before .if3 in
+    let if4 = c .before .before .before .before .if4 in
+    let begin = c .before .before .begin in
+    turn-begun (loop .inv) (loop-test .taken) (if1 .left) (makes-node .result) (makes-node .ensures) (if2 .left) (keeps-something .result) (keeps-something .ensures) (if3 .left) (if4 .taken) (begin .kept .0) (begin .ensures)
 
 draws-path-requires : tie.Need-draws-path-requires Inv-loop μ-loop
 draws-path-requires c κs = tt
 
 draw-requires : tie.Need-draw-requires Inv-loop μ-loop
-draw-requires c κs = ((let h = c .before .before .before .before .before .before .before .before .before .before .before .before .loop .inv in let l = c .before .before .before .before .before .before .before .before .before .before .before .loop-test .taken in omega (arith, h .top, h .stack-long, h .within, l, c .before .before .before .before .before .before .before .before .before .before .before .before .before .before .before .before .before .before .pre)), c .before .before .before .before .before .before .before .before .before .before .before .before .loop .inv .sized, c .before .before .before .before .before .before .before .before .before .before .before .before .loop .inv .links-long)
+draw-requires c κs =
+    let pre = c .before .before .before .before .before .before .before .before .before .before .before .before .before .before .before .before .before .before .pre in
+    let loop = c .before .before .before .before .before .before .before .before .before .before .before .before .loop in
+    let loop-test = c .before .before .before .before .before .before .before .before .before .before .before .loop-test in
+    ((let h = loop .inv in let l = loop-test .taken in omega (arith, h .top, h .stack-long, h .within, l, pre)), loop .inv .sized, loop .inv .links-long)
 
 loop-less-4 : tie.Need-loop-less-4 Inv-loop μ-loop
-loop-less-4 c = let h = c .before .before .before .before .before .before .before .before .before .before .before .before .before .loop .inv in let l = c .before .before .before .before .before .before .before .before .before .before .before .before .loop-test .taken in omega (arith, h .within, l)
+loop-less-4 c =
+    let loop = c .before .before .before .before .before .before .before .before .before .before .before .before .before .loop in
+    let loop-test = c .before .before .before .before .before .before .before .before .before .before .before .before .loop-test in
+    let h = loop .inv in let l = loop-test .taken in omega (arith, h .within, l)
 
 loop-again-4 : tie.Need-loop-again-4 Inv-loop μ-loop
-loop-again-4 c = turn-drawn (c .before .before .before .before .before .before .before .before .before .before .before .before .before .loop .inv) (c .before .before .before .before .before .before .before .before .before .before .before .before .loop-test .taken) (c .before .before .before .before .before .before .before .before .before .before .before .if1 .left) (c .before .before .before .before .before .before .before .before .before .makes-node .result) (c .before .before .before .before .before .before .before .before .before .makes-node .ensures) (c .before .before .before .before .before .before .before .before .if2 .left) (c .before .before .before .before .before .before .before .keeps-something .result) (c .before .before .before .before .before .before .before .keeps-something .ensures) (c .before .before .before .before .before .before .if3 .left) (c .before .before .before .before .before .if4 .left) (c .before .before .before .before .draws-path .result) (c .before .before .before .before .draws-path .ensures) (c .before .before .before .if5 .taken) (c .draw .ensures)
+loop-again-4 c =
+    let loop = c .before .before .before .before .before .before .before .before .before .before .before .before .before .loop in
+    let loop-test = c .before .before .before .before .before .before .before .before .before .before .before .before .loop-test in
+    let if1 = c .before .before .before .before .before .before .before .before .before .before .before .if1 in
+    let makes-node = c .before .before .before .before .before .before .before .before .before .makes-node in
+    let if2 = c .before .before .before .before .before .before .before .before .if2 in
+    let keeps-something = c .before .before .before .before .before .before .before .keeps-something in
+    let if3 = c .before .before .before .before .before .before .if3 in
+    let if4 = c .before .before .before .before .before .if4 in
+    let draws-path = c .before .before .before .before .draws-path in
+    turn-drawn (loop .inv) (loop-test .taken) (if1 .left) (makes-node .result) (makes-node .ensures) (if2 .left) (keeps-something .result) (keeps-something .ensures) (if3 .left) (if4 .left) (draws-path .result) (draws-path .ensures) (c .before .before .before .if5 .taken) (c .draw .ensures)
 
 ends-path-requires : tie.Need-ends-path-requires Inv-loop μ-loop
 ends-path-requires c κs = tt
@@ -91,7 +158,11 @@ cast-k : tie.Need-cast-k Inv-loop μ-loop
 cast-k c = search needs
 
 end-path-requires : tie.Need-end-path-requires Inv-loop μ-loop
-end-path-requires c κs = ((let h = c .before .before .before .before .before .before .before .before .before .before .before .before .before .before .before .before .loop .inv in let l = c .before .before .before .before .before .before .before .before .before .before .before .before .before .before .before .loop-test .taken in omega (arith, h .top, h .stack-long, h .within, l, c .before .before .before .before .before .before .before .before .before .before .before .before .before .before .before .before .before .before .before .before .before .before .pre)), c .before .before .before .before .before .before .before .before .before .before .before .before .before .before .before .before .loop .inv .sized, c .before .before .before .before .before .before .before .before .before .before .before .before .before .before .before .before .loop .inv .links-long)
+end-path-requires c κs =
+    let pre = c .before .before .before .before .before .before .before .before .before .before .before .before .before .before .before .before .before .before .before .before .before .before .pre in
+    let loop = c .before .before .before .before .before .before .before .before .before .before .before .before .before .before .before .before .loop in
+    let loop-test = c .before .before .before .before .before .before .before .before .before .before .before .before .before .before .before .loop-test in
+    ((let h = loop .inv in let l = loop-test .taken in omega (arith, h .top, h .stack-long, h .within, l, pre)), loop .inv .sized, loop .inv .links-long)
 
 refused-requires-2 : tie.Need-refused-requires-2 Inv-loop μ-loop
 refused-requires-2 c κs = tt
@@ -100,34 +171,87 @@ same-length-2 : tie.Need-same-length-2 Inv-loop μ-loop
 same-length-2 c = c .before .before .before .before .before .end-path .kept .1 .0 ∙ c .before .before .before .before .before .before .before .before .before .before .before .before .before .before .before .before .before .before .before .before .before .before .loop .inv .stack-long
 
 returns-2 : tie.Need-returns-2 Inv-loop μ-loop
-returns-2 c = c .refused2 .ensures ∙ turn-over (turn-ended (c .before .before .before .before .before .before .before .before .before .before .before .before .before .before .before .before .before .before .before .before .before .before .loop .inv) (c .before .before .before .before .before .before .before .before .before .before .before .before .before .before .before .before .before .before .before .before .before .loop-test .taken) (c .before .before .before .before .before .before .before .before .before .before .before .before .before .before .before .before .before .before .before .before .if1 .left) (c .before .before .before .before .before .before .before .before .before .before .before .before .before .before .before .before .before .before .makes-node .result) (c .before .before .before .before .before .before .before .before .before .before .before .before .before .before .before .before .before .before .makes-node .ensures) (c .before .before .before .before .before .before .before .before .before .before .before .before .before .before .before .before .before .if2 .left) (c .before .before .before .before .before .before .before .before .before .before .before .before .before .before .before .before .keeps-something .result) (c .before .before .before .before .before .before .before .before .before .before .before .before .before .before .before .before .keeps-something .ensures) (c .before .before .before .before .before .before .before .before .before .before .before .before .before .before .before .if3 .left) (c .before .before .before .before .before .before .before .before .before .before .before .before .before .before .if4 .left) (c .before .before .before .before .before .before .before .before .before .before .before .before .before .draws-path .result) (c .before .before .before .before .before .before .before .before .before .before .before .before .before .draws-path .ensures) (c .before .before .before .before .before .before .before .before .before .before .before .before .if5 .left) (c .before .before .before .before .before .before .before .before .before .before .before .ends-path .result) (c .before .before .before .before .before .before .before .before .before .before .before .ends-path .ensures) (c .before .before .before .before .before .before .before .before .before .before .if6 .taken) (c .before .before .before .before .before .end-path .kept .1 .0) (c .before .before .before .before .before .end-path .ensures)) (c .before .if7 .taken)
+returns-2 c =
+    let loop = c .before .before .before .before .before .before .before .before .before .before .before .before .before .before .before .before .before .before .before .before .before .before .loop in
+    let loop-test = c .before .before .before .before .before .before .before .before .before .before .before .before .before .before .before .before .before .before .before .before .before .loop-test in
+    let if1 = c .before .before .before .before .before .before .before .before .before .before .before .before .before .before .before .before .before .before .before .before .if1 in
+    let makes-node = c .before .before .before .before .before .before .before .before .before .before .before .before .before .before .before .before .before .before .makes-node in
+    let if2 = c .before .before .before .before .before .before .before .before .before .before .before .before .before .before .before .before .before .if2 in
+    let keeps-something = c .before .before .before .before .before .before .before .before .before .before .before .before .before .before .before .before .keeps-something in
+    let if3 = c .before .before .before .before .before .before .before .before .before .before .before .before .before .before .before .if3 in
+    let if4 = c .before .before .before .before .before .before .before .before .before .before .before .before .before .before .if4 in
+    let draws-path = c .before .before .before .before .before .before .before .before .before .before .before .before .before .draws-path in
+    let if5 = c .before .before .before .before .before .before .before .before .before .before .before .before .if5 in
+    let ends-path = c .before .before .before .before .before .before .before .before .before .before .before .ends-path in
+    let if6 = c .before .before .before .before .before .before .before .before .before .before .if6 in
+    let end-path = c .before .before .before .before .before .end-path in
+    c .refused2 .ensures ∙ turn-over (turn-ended (loop .inv) (loop-test .taken) (if1 .left) (makes-node .result) (makes-node .ensures) (if2 .left) (keeps-something .result) (keeps-something .ensures) (if3 .left) (if4 .left) (draws-path .result) (draws-path .ensures) (if5 .left) (ends-path .result) (ends-path .ensures) (if6 .taken) (end-path .kept .1 .0) (end-path .ensures)) (c .before .if7 .taken)
 
 mul-automata : tie.Need-mul-automata Inv-loop μ-loop
-mul-automata c = let h = c .before .before .before .before .before .end-path .ensures .room (c .before .if7 .left) in omega (arith, h)
+mul-automata c =
+    let end-path = c .before .before .before .before .before .end-path in
+    let h = end-path .ensures .room (c .before .if7 .left) in omega (arith, h)
 
 array-set-from-automata : tie.Need-array-set-from-automata Inv-loop μ-loop
-array-set-from-automata c = let h = c .before .before .before .before .before .end-path .ensures .room (c .before .if7 .left) in omega (arith, h)
+array-set-from-automata c =
+    let end-path = c .before .before .before .before .before .end-path in
+    let h = end-path .ensures .room (c .before .if7 .left) in omega (arith, h)
 
 loop-less-5 : tie.Need-loop-less-5 Inv-loop μ-loop
-loop-less-5 c = let h = c .before .before .before .before .before .before .before .before .before .before .before .before .before .before .before .before .before .before .before .before .before .before .loop .inv in let l = c .before .before .before .before .before .before .before .before .before .before .before .before .before .before .before .before .before .before .before .before .before .loop-test .taken in omega (arith, h .within, l)
+loop-less-5 c =
+    let loop = c .before .before .before .before .before .before .before .before .before .before .before .before .before .before .before .before .before .before .before .before .before .before .loop in
+    let loop-test = c .before .before .before .before .before .before .before .before .before .before .before .before .before .before .before .before .before .before .before .before .before .loop-test in
+    let h = loop .inv in let l = loop-test .taken in omega (arith, h .within, l)
 
 loop-again-5 : tie.Need-loop-again-5 Inv-loop μ-loop
-loop-again-5 c = turn-ended (c .before .before .before .before .before .before .before .before .before .before .before .before .before .before .before .before .before .before .before .before .before .before .loop .inv) (c .before .before .before .before .before .before .before .before .before .before .before .before .before .before .before .before .before .before .before .before .before .loop-test .taken) (c .before .before .before .before .before .before .before .before .before .before .before .before .before .before .before .before .before .before .before .before .if1 .left) (c .before .before .before .before .before .before .before .before .before .before .before .before .before .before .before .before .before .before .makes-node .result) (c .before .before .before .before .before .before .before .before .before .before .before .before .before .before .before .before .before .before .makes-node .ensures) (c .before .before .before .before .before .before .before .before .before .before .before .before .before .before .before .before .before .if2 .left) (c .before .before .before .before .before .before .before .before .before .before .before .before .before .before .before .before .keeps-something .result) (c .before .before .before .before .before .before .before .before .before .before .before .before .before .before .before .before .keeps-something .ensures) (c .before .before .before .before .before .before .before .before .before .before .before .before .before .before .before .if3 .left) (c .before .before .before .before .before .before .before .before .before .before .before .before .before .before .if4 .left) (c .before .before .before .before .before .before .before .before .before .before .before .before .before .draws-path .result) (c .before .before .before .before .before .before .before .before .before .before .before .before .before .draws-path .ensures) (c .before .before .before .before .before .before .before .before .before .before .before .before .if5 .left) (c .before .before .before .before .before .before .before .before .before .before .before .ends-path .result) (c .before .before .before .before .before .before .before .before .before .before .before .ends-path .ensures) (c .before .before .before .before .before .before .before .before .before .before .if6 .taken) (c .before .before .before .before .before .end-path .kept .1 .0) (c .before .before .before .before .before .end-path .ensures)
+loop-again-5 c =
+    let loop = c .before .before .before .before .before .before .before .before .before .before .before .before .before .before .before .before .before .before .before .before .before .before .loop in
+    let loop-test = c .before .before .before .before .before .before .before .before .before .before .before .before .before .before .before .before .before .before .before .before .before .loop-test in
+    let if1 = c .before .before .before .before .before .before .before .before .before .before .before .before .before .before .before .before .before .before .before .before .if1 in
+    let makes-node = c .before .before .before .before .before .before .before .before .before .before .before .before .before .before .before .before .before .before .makes-node in
+    let if2 = c .before .before .before .before .before .before .before .before .before .before .before .before .before .before .before .before .before .if2 in
+    let keeps-something = c .before .before .before .before .before .before .before .before .before .before .before .before .before .before .before .before .keeps-something in
+    let if3 = c .before .before .before .before .before .before .before .before .before .before .before .before .before .before .before .if3 in
+    let if4 = c .before .before .before .before .before .before .before .before .before .before .before .before .before .before .if4 in
+    let draws-path = c .before .before .before .before .before .before .before .before .before .before .before .before .before .draws-path in
+    let if5 = c .before .before .before .before .before .before .before .before .before .before .before .before .if5 in
+    let ends-path = c .before .before .before .before .before .before .before .before .before .before .before .ends-path in
+    let if6 = c .before .before .before .before .before .before .before .before .before .before .if6 in
+    let end-path = c .before .before .before .before .before .end-path in
+    turn-ended (loop .inv) (loop-test .taken) (if1 .left) (makes-node .result) (makes-node .ensures) (if2 .left) (keeps-something .result) (keeps-something .ensures) (if3 .left) (if4 .left) (draws-path .result) (draws-path .ensures) (if5 .left) (ends-path .result) (ends-path .ensures) (if6 .taken) (end-path .kept .1 .0) (end-path .ensures)
 
 loop-less-6 : tie.Need-loop-less-6 Inv-loop μ-loop
-loop-less-6 c = let h = c .before .before .before .before .before .before .before .before .before .before .before .before .loop .inv in let l = c .before .before .before .before .before .before .before .before .before .before .before .loop-test .taken in omega (arith, h .within, l)
+loop-less-6 c =
+    let loop = c .before .before .before .before .before .before .before .before .before .before .before .before .loop in
+    let loop-test = c .before .before .before .before .before .before .before .before .before .before .before .loop-test in
+    let h = loop .inv in let l = loop-test .taken in omega (arith, h .within, l)
 
 loop-again-6 : tie.Need-loop-again-6 Inv-loop μ-loop
-loop-again-6 c = turn-none (c .before .before .before .before .before .before .before .before .before .before .before .before .loop .inv) (c .before .before .before .before .before .before .before .before .before .before .before .loop-test .taken) (c .before .before .before .before .before .before .before .before .before .before .if1 .left) (c .before .before .before .before .before .before .before .before .makes-node .result) (c .before .before .before .before .before .before .before .before .makes-node .ensures) (c .before .before .before .before .before .before .before .if2 .left) (c .before .before .before .before .before .before .keeps-something .result) (c .before .before .before .before .before .before .keeps-something .ensures) (c .before .before .before .before .before .if3 .left) (c .before .before .before .before .if4 .left) (c .before .before .before .draws-path .result) (c .before .before .before .draws-path .ensures) (c .before .before .if5 .left) (c .before .ends-path .result) (c .before .ends-path .ensures) (c .if6 .left)
+loop-again-6 c =
+    let loop = c .before .before .before .before .before .before .before .before .before .before .before .before .loop in
+    let loop-test = c .before .before .before .before .before .before .before .before .before .before .before .loop-test in
+    let if1 = c .before .before .before .before .before .before .before .before .before .before .if1 in
+    let makes-node = c .before .before .before .before .before .before .before .before .makes-node in
+    let if2 = c .before .before .before .before .before .before .before .if2 in
+    let keeps-something = c .before .before .before .before .before .before .keeps-something in
+    let if3 = c .before .before .before .before .before .if3 in
+    let if4 = c .before .before .before .before .if4 in
+    let draws-path = c .before .before .before .draws-path in
+    let ends-path = c .before .ends-path in
+    turn-none (loop .inv) (loop-test .taken) (if1 .left) (makes-node .result) (makes-node .ensures) (if2 .left) (keeps-something .result) (keeps-something .ensures) (if3 .left) (if4 .left) (draws-path .result) (draws-path .ensures) (c .before .before .if5 .left) (ends-path .result) (ends-path .ensures) (c .if6 .left)
 
 finished-requires : tie.Need-finished-requires Inv-loop μ-loop
-finished-requires c κs = (c .before .before .before .loop .inv .lines-long, c .before .before .before .loop .inv .edges-long)
+finished-requires c κs =
+    let loop = c .before .before .before .loop in
+    (loop .inv .lines-long, loop .inv .edges-long)
 
 same-length-3 : tie.Need-same-length-3 Inv-loop μ-loop
 same-length-3 c = c .before .before .before .before .loop .inv .stack-long
 
 returns-3 : tie.Need-returns-3 Inv-loop μ-loop
-returns-3 c = c .finished .ensures (edgesIn (c .before .before .before .before .loop .links)) ∙ turn-last (c .before .before .before .before .loop .inv) (c .before .before .before .loop-test .left)
+returns-3 c =
+    let loop = c .before .before .before .before .loop in
+    c .finished .ensures (edgesIn (loop .links)) ∙ turn-last (loop .inv) (c .before .before .before .loop-test .left)
 
 pub run-code-spec : {M : Type 1} → statement M
 run-code-spec =
@@ -135,7 +259,7 @@ run-code-spec =
     (tie.spec
     Inv-loop
     μ-loop
-    no-automaton-requires
+    no-automata-requires
     first-counts-requires
     loop-holds
     refused-requires

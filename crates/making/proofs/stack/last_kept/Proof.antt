@@ -9,7 +9,9 @@ kept-in-requires : tie.Need-kept-in-requires
 kept-in-requires c κs = search needs
 
 returns : tie.Need-returns
-returns c = c .kept-in .ensures ∙ last-none (c .before .before .before .args .stack .now) (c .before .before .before .args .top) (c .before .if1 .taken)
+returns c =
+    let a = c .before .before .before .args in
+    c .kept-in .ensures ∙ last-none (a .stack .now) (a .top) (c .before .if1 .taken)
 
 sub-kept-in : tie.Need-sub-kept-in
 sub-kept-in c = search needs
@@ -24,7 +26,9 @@ kept-in-requires-2 : tie.Need-kept-in-requires-2
 kept-in-requires-2 c κs = search needs
 
 returns-2 : tie.Need-returns-2
-returns-2 c = c .kept-in2 .ensures ∙ last-some (c .before .before .before .before .args .stack .now) (c .before .before .before .before .args .top) (c .before .before .if1 .left)
+returns-2 c =
+    let a = c .before .before .before .before .args in
+    c .kept-in2 .ensures ∙ last-some (a .stack .now) (a .top) (c .before .before .if1 .left)
 
 pub last-kept-spec : {M : Type 1} → statement M
 last-kept-spec =

@@ -17,7 +17,9 @@ same-length : tie.Need-same-length
 same-length c = search needs
 
 returns : tie.Need-returns
-returns c = pushed (c .before .before .args .stack .now) (c .before .before .args .top) (c .packed-kept .result) (c .before .before .args .k) (c .before .before .pre) (c .packed-kept .ensures)
+returns c =
+    let a = c .before .before .args in
+    pushed (a .stack .now) (a .top) (c .packed-kept .result) (a .k) (c .before .before .pre) (c .packed-kept .ensures)
 
 pub push-spec : {M : Type 1} → statement M
 push-spec =

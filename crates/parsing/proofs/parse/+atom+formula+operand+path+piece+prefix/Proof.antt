@@ -248,16 +248,16 @@ formula-same-length-2 t c = search needs
 
 formula-returns-3 : (t : ℕ) → formula-lts.Need-returns-3 (formula-calls t) (formula-at t) formula.Post formula-Inv-loop formula-μ-loop
 unfolding gotOf
-formula-returns-3 t c = formula-stop (c .before .before .before .before .before .before .before .before .before .before .before .before .before .before .before .before .before .before .args .text .now) (c .before .before .before .before .before .before .before .before .before .before .before .before .before .before .before .before .before .before .args .depth - 1) (c .before .before .before .before .before .before .before .before .before .before .before .before .before .before .loop .inv .3) (seenOf (c .before .before .before .before .before .before .before .before .before .before .before .before .operand .result) (c .before .before .before .before .before .before .before .before .before .before .before .before .operand .last .1 .1 .1 .1 .0)) (c .before .before .before .before .before .before .before .before .before .before .before .before .operand .ensures) (omega arith) (c .before .before .before .before .before .follow .result) (c .before .before .before .before .before .follow .last .1 .1 .1 .1 .0) (c .before .before .before .before .before .before .before .byte-at .result) (c .before .before .before .before .before .before .before .byte-at .ensures) (c .before .before .before .before .before .follow .ensures) (not-true (c .before .before .before .before .before .follow .result .more) (c .if3 .taken))
+formula-returns-3 t c = formula-stop (c .before .before .before .before .before .before .before .before .before .before .before .before .before .before .before .before .before .args .text .now) (c .before .before .before .before .before .before .before .before .before .before .before .before .before .before .before .before .before .args .depth - 1) (c .before .before .before .before .before .before .before .before .before .before .before .before .before .loop .inv .3) (seenOf (c .before .before .before .before .before .before .before .before .before .before .before .operand .result) (c .before .before .before .before .before .before .before .before .before .before .before .operand .last .1 .1 .1 .1 .0)) (c .before .before .before .before .before .before .before .before .before .before .before .operand .ensures) (omega arith) (c .before .before .before .before .before .follow .result) (c .before .before .before .before .before .follow .last .1 .1 .1 .1 .0) (c .before .before .before .before .before .before .before .byte-at .result) (c .before .before .before .before .before .before .before .byte-at .ensures) (c .before .before .before .before .before .follow .ensures) (not-true (c .before .before .before .before .before .follow .result .more) (c .if3 .taken))
 
 formula-add-at : (t : ℕ) → formula-lts.Need-add-at (formula-calls t) (formula-at t) formula.Post formula-Inv-loop formula-μ-loop
-formula-add-at t c = let h = formula-more (c .before .before .before .before .before .before .before .before .before .before .before .before .before .before .before .before .before .before .args .text .now) (c .before .before .before .before .before .before .before .before .before .before .before .before .before .before .before .before .before .before .args .depth - 1) (c .before .before .before .before .before .before .before .before .before .before .before .before .before .before .loop .inv .3) (seenOf (c .before .before .before .before .before .before .before .before .before .before .before .before .operand .result) (c .before .before .before .before .before .before .before .before .before .before .before .before .operand .last .1 .1 .1 .1 .0)) (c .before .before .before .before .before .before .before .before .before .before .before .before .operand .ensures) (omega arith) (c .before .before .before .before .before .follow .result) (c .before .before .before .before .before .follow .last .1 .1 .1 .1 .0) (c .before .before .before .before .before .before .before .byte-at .result) (c .before .before .before .before .before .before .before .byte-at .ensures) (c .before .before .before .before .before .follow .ensures) (not-false (c .before .before .before .before .before .follow .result .more) (c .if3 .left)) in omega (arith, h .1, c .before .before .before .before .before .before .before .before .before .before .before .before .before .before .loop .inv .1)
+formula-add-at t c = let h = formula-more (c .before .before .before .before .before .before .before .before .before .before .before .before .before .before .before .before .before .args .text .now) (c .before .before .before .before .before .before .before .before .before .before .before .before .before .before .before .before .before .args .depth - 1) (c .before .before .before .before .before .before .before .before .before .before .before .before .before .loop .inv .3) (seenOf (c .before .before .before .before .before .before .before .before .before .before .before .operand .result) (c .before .before .before .before .before .before .before .before .before .before .before .operand .last .1 .1 .1 .1 .0)) (c .before .before .before .before .before .before .before .before .before .before .before .operand .ensures) (omega arith) (c .before .before .before .before .before .follow .result) (c .before .before .before .before .before .follow .last .1 .1 .1 .1 .0) (c .before .before .before .before .before .before .before .byte-at .result) (c .before .before .before .before .before .before .before .byte-at .ensures) (c .before .before .before .before .before .follow .ensures) (not-false (c .before .before .before .before .before .follow .result .more) (c .if3 .left)) in omega (arith, h .1, c .before .before .before .before .before .before .before .before .before .before .before .before .before .loop .inv .1)
 
 formula-loop-less : (t : ℕ) → formula-lts.Need-loop-less (formula-calls t) (formula-at t) formula.Post formula-Inv-loop formula-μ-loop
-formula-loop-less t c = let h = formula-more (c .before .before .before .before .before .before .before .before .before .before .before .before .before .before .before .before .before .before .before .args .text .now) (c .before .before .before .before .before .before .before .before .before .before .before .before .before .before .before .before .before .before .before .args .depth - 1) (c .before .before .before .before .before .before .before .before .before .before .before .before .before .before .before .loop .inv .3) (seenOf (c .before .before .before .before .before .before .before .before .before .before .before .before .before .operand .result) (c .before .before .before .before .before .before .before .before .before .before .before .before .before .operand .last .1 .1 .1 .1 .0)) (c .before .before .before .before .before .before .before .before .before .before .before .before .before .operand .ensures) (omega arith) (c .before .before .before .before .before .before .follow .result) (c .before .before .before .before .before .before .follow .last .1 .1 .1 .1 .0) (c .before .before .before .before .before .before .before .before .byte-at .result) (c .before .before .before .before .before .before .before .before .byte-at .ensures) (c .before .before .before .before .before .before .follow .ensures) (not-false (c .before .before .before .before .before .before .follow .result .more) (c .before .if3 .left)) in omega (arith, h .0, h .1)
+formula-loop-less t c = let h = formula-more (c .before .before .before .before .before .before .before .before .before .before .before .before .before .before .before .before .before .before .args .text .now) (c .before .before .before .before .before .before .before .before .before .before .before .before .before .before .before .before .before .before .args .depth - 1) (c .before .before .before .before .before .before .before .before .before .before .before .before .before .before .loop .inv .3) (seenOf (c .before .before .before .before .before .before .before .before .before .before .before .before .operand .result) (c .before .before .before .before .before .before .before .before .before .before .before .before .operand .last .1 .1 .1 .1 .0)) (c .before .before .before .before .before .before .before .before .before .before .before .before .operand .ensures) (omega arith) (c .before .before .before .before .before .before .follow .result) (c .before .before .before .before .before .before .follow .last .1 .1 .1 .1 .0) (c .before .before .before .before .before .before .before .before .byte-at .result) (c .before .before .before .before .before .before .before .before .byte-at .ensures) (c .before .before .before .before .before .before .follow .ensures) (not-false (c .before .before .before .before .before .before .follow .result .more) (c .before .if3 .left)) in omega (arith, h .0, h .1)
 
 formula-loop-again : (t : ℕ) → formula-lts.Need-loop-again (formula-calls t) (formula-at t) formula.Post formula-Inv-loop formula-μ-loop
-formula-loop-again t c = let i = c .before .before .before .before .before .before .before .before .before .before .before .before .before .before .before .loop .inv in let h = formula-more (c .before .before .before .before .before .before .before .before .before .before .before .before .before .before .before .before .before .before .before .args .text .now) (c .before .before .before .before .before .before .before .before .before .before .before .before .before .before .before .before .before .before .before .args .depth - 1) (c .before .before .before .before .before .before .before .before .before .before .before .before .before .before .before .loop .inv .3) (seenOf (c .before .before .before .before .before .before .before .before .before .before .before .before .before .operand .result) (c .before .before .before .before .before .before .before .before .before .before .before .before .before .operand .last .1 .1 .1 .1 .0)) (c .before .before .before .before .before .before .before .before .before .before .before .before .before .operand .ensures) (omega arith) (c .before .before .before .before .before .before .follow .result) (c .before .before .before .before .before .before .follow .last .1 .1 .1 .1 .0) (c .before .before .before .before .before .before .before .before .byte-at .result) (c .before .before .before .before .before .before .before .before .byte-at .ensures) (c .before .before .before .before .before .before .follow .ensures) (not-false (c .before .before .before .before .before .before .follow .result .more) (c .before .if3 .left)) in (i .0, i .1, search needs, h .2)
+formula-loop-again t c = let i = c .before .before .before .before .before .before .before .before .before .before .before .before .before .before .loop .inv in let h = formula-more (c .before .before .before .before .before .before .before .before .before .before .before .before .before .before .before .before .before .before .args .text .now) (c .before .before .before .before .before .before .before .before .before .before .before .before .before .before .before .before .before .before .args .depth - 1) (c .before .before .before .before .before .before .before .before .before .before .before .before .before .before .loop .inv .3) (seenOf (c .before .before .before .before .before .before .before .before .before .before .before .before .operand .result) (c .before .before .before .before .before .before .before .before .before .before .before .before .operand .last .1 .1 .1 .1 .0)) (c .before .before .before .before .before .before .before .before .before .before .before .before .operand .ensures) (omega arith) (c .before .before .before .before .before .before .follow .result) (c .before .before .before .before .before .before .follow .last .1 .1 .1 .1 .0) (c .before .before .before .before .before .before .before .before .byte-at .result) (c .before .before .before .before .before .before .before .before .byte-at .ensures) (c .before .before .before .before .before .before .follow .ensures) (not-false (c .before .before .before .before .before .before .follow .result .more) (c .before .if3 .left)) in (i .0, i .1, search needs, h .2)
 
 abbrev operand-Inv-loop : operand-lts.InvT-loop
 operand-Inv-loop text start depth out₀ at₀ w₀ count₀ out at w count = (length text < 18446744073709551616) × (length out ≡ length out₀) × Waits text (inner text depth) (operandAt text (inner text depth) start) (workOf w₀ out₀) at count (workOf w out)
@@ -296,13 +296,13 @@ operand-returns-2 : (t : ℕ) → operand-lts.Need-returns-2 (operand-calls t) (
 operand-returns-2 t c = waits-fail (c .before .before .before .before .before .before .before .before .before .before .before .args .text .now) (inner (c .before .before .before .before .before .before .before .before .before .before .before .args .text .now) (c .before .before .before .before .before .before .before .before .before .before .before .args .depth)) (c .before .before .before .before .before .before .before .before .loop .inv .2) (ap (λ (z : ℕ). isPrefix z) (sym (c .before .before .before .before .before .before .before .byte-at .ensures)) ∙ yes-is (c .before .before .before .before .before .before .is-prefix .ensures) (c .before .before .before .before .before .if1 .left)) (seenOf (c .before .before .before .prefix .result) (c .before .before .before .prefix .last .1 .1 .1 .1 .0)) (c .before .before .before .prefix .ensures) (c .if2 .taken)
 
 operand-add-count : (t : ℕ) → operand-lts.Need-add-count (operand-calls t) (operand-at t) operand.Post operand-Inv-loop operand-μ-loop
-operand-add-count t c = let h = operand-more (c .before .before .before .before .before .before .before .before .before .before .before .before .args .text .now) (c .before .before .before .before .before .before .before .before .before .before .before .before .args .depth) (c .before .before .before .before .before .before .before .before .before .loop .inv .2) (ap (λ (z : ℕ). isPrefix z) (sym (c .before .before .before .before .before .before .before .before .byte-at .ensures)) ∙ yes-is (c .before .before .before .before .before .before .before .is-prefix .ensures) (c .before .before .before .before .before .before .if1 .left)) (seenOf (c .before .before .before .before .prefix .result) (c .before .before .before .before .prefix .last .1 .1 .1 .1 .0)) (c .before .before .before .before .prefix .ensures) (omega arith) in let i = c .before .before .before .before .before .before .before .before .before .loop .inv .2 .few in omega (arith, h .1, c .before .before .before .before .before .before .before .before .before .loop .inv .0)
+operand-add-count t c = let h = operand-more (c .before .before .before .before .before .before .before .before .before .before .before .args .text .now) (c .before .before .before .before .before .before .before .before .before .before .before .args .depth) (c .before .before .before .before .before .before .before .before .loop .inv .2) (ap (λ (z : ℕ). isPrefix z) (sym (c .before .before .before .before .before .before .before .byte-at .ensures)) ∙ yes-is (c .before .before .before .before .before .before .is-prefix .ensures) (c .before .before .before .before .before .if1 .left)) (seenOf (c .before .before .before .prefix .result) (c .before .before .before .prefix .last .1 .1 .1 .1 .0)) (c .before .before .before .prefix .ensures) (omega arith) in let i = c .before .before .before .before .before .before .before .before .loop .inv .2 .few in omega (arith, h .1, c .before .before .before .before .before .before .before .before .loop .inv .0)
 
 operand-loop-less : (t : ℕ) → operand-lts.Need-loop-less (operand-calls t) (operand-at t) operand.Post operand-Inv-loop operand-μ-loop
-operand-loop-less t c = let h = operand-more (c .before .before .before .before .before .before .before .before .before .before .before .before .args .text .now) (c .before .before .before .before .before .before .before .before .before .before .before .before .args .depth) (c .before .before .before .before .before .before .before .before .before .loop .inv .2) (ap (λ (z : ℕ). isPrefix z) (sym (c .before .before .before .before .before .before .before .before .byte-at .ensures)) ∙ yes-is (c .before .before .before .before .before .before .before .is-prefix .ensures) (c .before .before .before .before .before .before .if1 .left)) (seenOf (c .before .before .before .before .prefix .result) (c .before .before .before .before .prefix .last .1 .1 .1 .1 .0)) (c .before .before .before .before .prefix .ensures) (omega arith) in omega (arith, h .0, h .1)
+operand-loop-less t c = let h = operand-more (c .before .before .before .before .before .before .before .before .before .before .before .args .text .now) (c .before .before .before .before .before .before .before .before .before .before .before .args .depth) (c .before .before .before .before .before .before .before .before .loop .inv .2) (ap (λ (z : ℕ). isPrefix z) (sym (c .before .before .before .before .before .before .before .byte-at .ensures)) ∙ yes-is (c .before .before .before .before .before .before .is-prefix .ensures) (c .before .before .before .before .before .if1 .left)) (seenOf (c .before .before .before .prefix .result) (c .before .before .before .prefix .last .1 .1 .1 .1 .0)) (c .before .before .before .prefix .ensures) (omega arith) in omega (arith, h .0, h .1)
 
 operand-loop-again : (t : ℕ) → operand-lts.Need-loop-again (operand-calls t) (operand-at t) operand.Post operand-Inv-loop operand-μ-loop
-operand-loop-again t c = let h = operand-more (c .before .before .before .before .before .before .before .before .before .before .before .before .args .text .now) (c .before .before .before .before .before .before .before .before .before .before .before .before .args .depth) (c .before .before .before .before .before .before .before .before .before .loop .inv .2) (ap (λ (z : ℕ). isPrefix z) (sym (c .before .before .before .before .before .before .before .before .byte-at .ensures)) ∙ yes-is (c .before .before .before .before .before .before .before .is-prefix .ensures) (c .before .before .before .before .before .before .if1 .left)) (seenOf (c .before .before .before .before .prefix .result) (c .before .before .before .before .prefix .last .1 .1 .1 .1 .0)) (c .before .before .before .before .prefix .ensures) (omega arith) in (c .before .before .before .before .before .before .before .before .before .loop .inv .0, search needs, h .2)
+operand-loop-again t c = let h = operand-more (c .before .before .before .before .before .before .before .before .before .before .before .args .text .now) (c .before .before .before .before .before .before .before .before .before .before .before .args .depth) (c .before .before .before .before .before .before .before .before .loop .inv .2) (ap (λ (z : ℕ). isPrefix z) (sym (c .before .before .before .before .before .before .before .byte-at .ensures)) ∙ yes-is (c .before .before .before .before .before .before .is-prefix .ensures) (c .before .before .before .before .before .if1 .left)) (seenOf (c .before .before .before .prefix .result) (c .before .before .before .prefix .last .1 .1 .1 .1 .0)) (c .before .before .before .prefix .ensures) (omega arith) in (c .before .before .before .before .before .before .before .before .loop .inv .0, search needs, h .2)
 
 abbrev path-Inv-loop : path-lts.InvT-loop
 path-Inv-loop text start depth out₀ by at₀ w₀ h₀ out at w h = (1 ≤ depth) × (length text < 18446744073709551616) × (length out ≡ length out₀) × InPath text (depth - 1) (inner text depth .path start) (workOf w₀ out₀) at (workOf w out) (h .second) (h .first)
@@ -339,20 +339,20 @@ path-follow-requires : (t : ℕ) → path-lts.Need-follow-requires (path-calls t
 path-follow-requires t c κs = search needs
 
 path-same-length-2 : (t : ℕ) → path-lts.Need-same-length-2 (path-calls t) (path-at t) path.Post path-Inv-loop path-μ-loop
-path-same-length-2 t c = search needs
+path-same-length-2 t c = c .before .before .before .before .before .follow .kept .1 .1 .1 .1 .0 ∙ c .before .before .before .before .before .before .before .before .before .before .before .stars .kept .1 .1 .0 ∙ c .before .before .before .before .before .before .before .before .before .before .before .before .before .before .before .piece .kept .1 .1 .1 .1 .0 ∙ c .before .before .before .before .before .before .before .before .before .before .before .before .before .before .before .before .before .loop .inv .2
 
 path-returns-3 : (t : ℕ) → path-lts.Need-returns-3 (path-calls t) (path-at t) path.Post path-Inv-loop path-μ-loop
 unfolding gotOf
-path-returns-3 t c = path-stop (c .before .before .before .before .before .before .before .before .before .before .before .before .before .before .before .before .before .before .before .before .before .before .args .text .now) (c .before .before .before .before .before .before .before .before .before .before .before .before .before .before .before .before .before .before .before .before .before .before .args .depth - 1) (c .before .before .before .before .before .before .before .before .before .before .before .before .before .before .before .before .before .before .loop .inv .3) (seenOf (c .before .before .before .before .before .before .before .before .before .before .before .before .before .before .before .before .piece .result) (c .before .before .before .before .before .before .before .before .before .before .before .before .before .before .before .before .piece .last .1 .1 .1 .1 .0)) (seenOf (c .before .before .before .before .before .before .before .before .before .before .before .before .stars .result) (c .before .before .before .before .before .before .before .before .before .before .before .before .stars .last .1 .1 .0)) (c .before .before .before .before .before .before .before .before .before .before .before .before .before .before .before .before .piece .ensures) (c .before .before .before .before .before .before .before .before .before .before .before .before .stars .ensures) (omega arith) (c .before .before .before .before .before .follow .result) (c .before .before .before .before .before .follow .last .1 .1 .1 .1 .0) (c .before .before .before .before .before .before .before .byte-at .result) (c .before .before .before .before .before .before .before .byte-at .ensures) (c .before .before .before .before .before .follow .ensures) (not-true (c .before .before .before .before .before .follow .result .more) (c .if3 .taken))
+path-returns-3 t c = path-stop (c .before .before .before .before .before .before .before .before .before .before .before .before .before .before .before .before .before .before .before .before .before .args .text .now) (c .before .before .before .before .before .before .before .before .before .before .before .before .before .before .before .before .before .before .before .before .before .args .depth - 1) (c .before .before .before .before .before .before .before .before .before .before .before .before .before .before .before .before .before .loop .inv .3) (seenOf (c .before .before .before .before .before .before .before .before .before .before .before .before .before .before .before .piece .result) (c .before .before .before .before .before .before .before .before .before .before .before .before .before .before .before .piece .last .1 .1 .1 .1 .0)) (seenOf (c .before .before .before .before .before .before .before .before .before .before .before .stars .result) (c .before .before .before .before .before .before .before .before .before .before .before .stars .last .1 .1 .0)) (c .before .before .before .before .before .before .before .before .before .before .before .before .before .before .before .piece .ensures) (c .before .before .before .before .before .before .before .before .before .before .before .stars .ensures) (omega arith) (c .before .before .before .before .before .follow .result) (c .before .before .before .before .before .follow .last .1 .1 .1 .1 .0) (c .before .before .before .before .before .before .before .byte-at .result) (c .before .before .before .before .before .before .before .byte-at .ensures) (c .before .before .before .before .before .follow .ensures) (not-true (c .before .before .before .before .before .follow .result .more) (c .if3 .taken))
 
 path-add-at : (t : ℕ) → path-lts.Need-add-at (path-calls t) (path-at t) path.Post path-Inv-loop path-μ-loop
-path-add-at t c = let h = path-more (c .before .before .before .before .before .before .before .before .before .before .before .before .before .before .before .before .before .before .before .before .before .before .args .text .now) (c .before .before .before .before .before .before .before .before .before .before .before .before .before .before .before .before .before .before .before .before .before .before .args .depth - 1) (c .before .before .before .before .before .before .before .before .before .before .before .before .before .before .before .before .before .before .loop .inv .3) (seenOf (c .before .before .before .before .before .before .before .before .before .before .before .before .before .before .before .before .piece .result) (c .before .before .before .before .before .before .before .before .before .before .before .before .before .before .before .before .piece .last .1 .1 .1 .1 .0)) (seenOf (c .before .before .before .before .before .before .before .before .before .before .before .before .stars .result) (c .before .before .before .before .before .before .before .before .before .before .before .before .stars .last .1 .1 .0)) (c .before .before .before .before .before .before .before .before .before .before .before .before .before .before .before .before .piece .ensures) (c .before .before .before .before .before .before .before .before .before .before .before .before .stars .ensures) (omega arith) (c .before .before .before .before .before .follow .result) (c .before .before .before .before .before .follow .last .1 .1 .1 .1 .0) (c .before .before .before .before .before .before .before .byte-at .result) (c .before .before .before .before .before .before .before .byte-at .ensures) (c .before .before .before .before .before .follow .ensures) (not-false (c .before .before .before .before .before .follow .result .more) (c .if3 .left)) in omega (arith, h .1, c .before .before .before .before .before .before .before .before .before .before .before .before .before .before .before .before .before .before .loop .inv .1)
+path-add-at t c = let h = path-more (c .before .before .before .before .before .before .before .before .before .before .before .before .before .before .before .before .before .before .before .before .before .args .text .now) (c .before .before .before .before .before .before .before .before .before .before .before .before .before .before .before .before .before .before .before .before .before .args .depth - 1) (c .before .before .before .before .before .before .before .before .before .before .before .before .before .before .before .before .before .loop .inv .3) (seenOf (c .before .before .before .before .before .before .before .before .before .before .before .before .before .before .before .piece .result) (c .before .before .before .before .before .before .before .before .before .before .before .before .before .before .before .piece .last .1 .1 .1 .1 .0)) (seenOf (c .before .before .before .before .before .before .before .before .before .before .before .stars .result) (c .before .before .before .before .before .before .before .before .before .before .before .stars .last .1 .1 .0)) (c .before .before .before .before .before .before .before .before .before .before .before .before .before .before .before .piece .ensures) (c .before .before .before .before .before .before .before .before .before .before .before .stars .ensures) (omega arith) (c .before .before .before .before .before .follow .result) (c .before .before .before .before .before .follow .last .1 .1 .1 .1 .0) (c .before .before .before .before .before .before .before .byte-at .result) (c .before .before .before .before .before .before .before .byte-at .ensures) (c .before .before .before .before .before .follow .ensures) (not-false (c .before .before .before .before .before .follow .result .more) (c .if3 .left)) in omega (arith, h .1, c .before .before .before .before .before .before .before .before .before .before .before .before .before .before .before .before .before .loop .inv .1)
 
 path-loop-less : (t : ℕ) → path-lts.Need-loop-less (path-calls t) (path-at t) path.Post path-Inv-loop path-μ-loop
-path-loop-less t c = let h = path-more (c .before .before .before .before .before .before .before .before .before .before .before .before .before .before .before .before .before .before .before .before .before .before .before .args .text .now) (c .before .before .before .before .before .before .before .before .before .before .before .before .before .before .before .before .before .before .before .before .before .before .before .args .depth - 1) (c .before .before .before .before .before .before .before .before .before .before .before .before .before .before .before .before .before .before .before .loop .inv .3) (seenOf (c .before .before .before .before .before .before .before .before .before .before .before .before .before .before .before .before .before .piece .result) (c .before .before .before .before .before .before .before .before .before .before .before .before .before .before .before .before .before .piece .last .1 .1 .1 .1 .0)) (seenOf (c .before .before .before .before .before .before .before .before .before .before .before .before .before .stars .result) (c .before .before .before .before .before .before .before .before .before .before .before .before .before .stars .last .1 .1 .0)) (c .before .before .before .before .before .before .before .before .before .before .before .before .before .before .before .before .before .piece .ensures) (c .before .before .before .before .before .before .before .before .before .before .before .before .before .stars .ensures) (omega arith) (c .before .before .before .before .before .before .follow .result) (c .before .before .before .before .before .before .follow .last .1 .1 .1 .1 .0) (c .before .before .before .before .before .before .before .before .byte-at .result) (c .before .before .before .before .before .before .before .before .byte-at .ensures) (c .before .before .before .before .before .before .follow .ensures) (not-false (c .before .before .before .before .before .before .follow .result .more) (c .before .if3 .left)) in omega (arith, h .0, h .1)
+path-loop-less t c = let h = path-more (c .before .before .before .before .before .before .before .before .before .before .before .before .before .before .before .before .before .before .before .before .before .before .args .text .now) (c .before .before .before .before .before .before .before .before .before .before .before .before .before .before .before .before .before .before .before .before .before .before .args .depth - 1) (c .before .before .before .before .before .before .before .before .before .before .before .before .before .before .before .before .before .before .loop .inv .3) (seenOf (c .before .before .before .before .before .before .before .before .before .before .before .before .before .before .before .before .piece .result) (c .before .before .before .before .before .before .before .before .before .before .before .before .before .before .before .before .piece .last .1 .1 .1 .1 .0)) (seenOf (c .before .before .before .before .before .before .before .before .before .before .before .before .stars .result) (c .before .before .before .before .before .before .before .before .before .before .before .before .stars .last .1 .1 .0)) (c .before .before .before .before .before .before .before .before .before .before .before .before .before .before .before .before .piece .ensures) (c .before .before .before .before .before .before .before .before .before .before .before .before .stars .ensures) (omega arith) (c .before .before .before .before .before .before .follow .result) (c .before .before .before .before .before .before .follow .last .1 .1 .1 .1 .0) (c .before .before .before .before .before .before .before .before .byte-at .result) (c .before .before .before .before .before .before .before .before .byte-at .ensures) (c .before .before .before .before .before .before .follow .ensures) (not-false (c .before .before .before .before .before .before .follow .result .more) (c .before .if3 .left)) in omega (arith, h .0, h .1)
 
 path-loop-again : (t : ℕ) → path-lts.Need-loop-again (path-calls t) (path-at t) path.Post path-Inv-loop path-μ-loop
-path-loop-again t c = let i = c .before .before .before .before .before .before .before .before .before .before .before .before .before .before .before .before .before .before .before .loop .inv in let h = path-more (c .before .before .before .before .before .before .before .before .before .before .before .before .before .before .before .before .before .before .before .before .before .before .before .args .text .now) (c .before .before .before .before .before .before .before .before .before .before .before .before .before .before .before .before .before .before .before .before .before .before .before .args .depth - 1) (c .before .before .before .before .before .before .before .before .before .before .before .before .before .before .before .before .before .before .before .loop .inv .3) (seenOf (c .before .before .before .before .before .before .before .before .before .before .before .before .before .before .before .before .before .piece .result) (c .before .before .before .before .before .before .before .before .before .before .before .before .before .before .before .before .before .piece .last .1 .1 .1 .1 .0)) (seenOf (c .before .before .before .before .before .before .before .before .before .before .before .before .before .stars .result) (c .before .before .before .before .before .before .before .before .before .before .before .before .before .stars .last .1 .1 .0)) (c .before .before .before .before .before .before .before .before .before .before .before .before .before .before .before .before .before .piece .ensures) (c .before .before .before .before .before .before .before .before .before .before .before .before .before .stars .ensures) (omega arith) (c .before .before .before .before .before .before .follow .result) (c .before .before .before .before .before .before .follow .last .1 .1 .1 .1 .0) (c .before .before .before .before .before .before .before .before .byte-at .result) (c .before .before .before .before .before .before .before .before .byte-at .ensures) (c .before .before .before .before .before .before .follow .ensures) (not-false (c .before .before .before .before .before .before .follow .result .more) (c .before .if3 .left)) in (i .0, i .1, search needs, h .2)
+path-loop-again t c = let i = c .before .before .before .before .before .before .before .before .before .before .before .before .before .before .before .before .before .before .loop .inv in let h = path-more (c .before .before .before .before .before .before .before .before .before .before .before .before .before .before .before .before .before .before .before .before .before .before .args .text .now) (c .before .before .before .before .before .before .before .before .before .before .before .before .before .before .before .before .before .before .before .before .before .before .args .depth - 1) (c .before .before .before .before .before .before .before .before .before .before .before .before .before .before .before .before .before .before .loop .inv .3) (seenOf (c .before .before .before .before .before .before .before .before .before .before .before .before .before .before .before .before .piece .result) (c .before .before .before .before .before .before .before .before .before .before .before .before .before .before .before .before .piece .last .1 .1 .1 .1 .0)) (seenOf (c .before .before .before .before .before .before .before .before .before .before .before .before .stars .result) (c .before .before .before .before .before .before .before .before .before .before .before .before .stars .last .1 .1 .0)) (c .before .before .before .before .before .before .before .before .before .before .before .before .before .before .before .before .piece .ensures) (c .before .before .before .before .before .before .before .before .before .before .before .before .stars .ensures) (omega arith) (c .before .before .before .before .before .before .follow .result) (c .before .before .before .before .before .before .follow .last .1 .1 .1 .1 .0) (c .before .before .before .before .before .before .before .before .byte-at .result) (c .before .before .before .before .before .before .before .before .byte-at .ensures) (c .before .before .before .before .before .before .follow .ensures) (not-false (c .before .before .before .before .before .before .follow .result .more) (c .before .if3 .left)) in (i .0, i .1, search needs, h .2)
 
 piece-byte-at-requires : (t : ℕ) → piece-lts.Need-byte-at-requires (piece-calls t) (piece-at t) piece.Post
 piece-byte-at-requires t c κs = search needs

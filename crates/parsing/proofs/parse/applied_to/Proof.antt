@@ -18,7 +18,7 @@ same-length c = search needs
 
 returns-2 : tie.Need-returns-2
 unfolding gotOf
-returns-2 c = map-on (applied (c .before .before .before .before .before .before .before .args .count)) (seenOf (c .before .before .before .before .before .before .before .args .p) (c .before .before .before .before .before .before .before .args .out .now)) _ (omega arith) (c .before .before .write-prefixes .ensures)
+returns-2 c = map-on (applied (c .before .before .before .before .before .before .args .count)) (seenOf (c .before .before .before .before .before .before .args .p) (c .before .before .before .before .before .before .args .out .now)) _ (omega arith) (c .before .before .write-prefixes .ensures)
 
 pub applied-to-spec : {M : Type 1} → statement M
 applied-to-spec = tie.close (tie.spec returns write-prefixes-requires same-length returns-2)

@@ -18,7 +18,7 @@ same-length c = search needs
 
 returns-2 : tie.Need-returns-2
 unfolding gotOf
-returns-2 c = map-on (ended (c .before .before .before .before .before .before .before .args .code)) (seenOf (c .before .before .before .before .before .before .before .args .p) (c .before .before .before .before .before .before .before .args .out .now)) _ (omega arith) (c .before .before .write-end .ensures)
+returns-2 c = map-on (ended (c .before .before .before .before .before .before .args .code)) (seenOf (c .before .before .before .before .before .before .args .p) (c .before .before .before .before .before .before .args .out .now)) _ (omega arith) (c .before .before .write-end .ensures)
 
 pub ended-path-spec : {M : Type 1} → statement M
 ended-path-spec = tie.close (tie.spec returns write-end-requires same-length returns-2)

@@ -17,27 +17,27 @@ write-step-requires : tie.Need-write-step-requires
 write-step-requires c κs = search needs
 
 add-t14 : tie.Need-add-t14
-add-t14 c = let h = byte-there (c .before .before .before .before .before .before .before .before .before .before .args .text .now) (c .before .before .before .before .before .before .before .before .before .before .args .p .at) 45 (sym (c .before .before .before .before .before .byte-at .ensures) ∙ c .before .before .before .before .if2 .taken) (omega arith) in omega arith
+add-t14 c = let h = byte-there (c .before .before .before .before .before .before .before .before .before .args .text .now) (c .before .before .before .before .before .before .before .before .before .args .p .at) 45 (sym (c .before .before .before .before .before .byte-at .ensures) ∙ c .before .before .before .before .if2 .taken) (omega arith) in omega arith
 
 same-length : tie.Need-same-length
 same-length c = search needs
 
 returns-2 : tie.Need-returns-2
 unfolding gotOf
-returns-2 c = step-back (c .before .before .before .before .before .before .before .before .before .before .args .text .now) (seenOf (c .before .before .before .before .before .before .before .before .before .before .args .p) (c .before .before .before .before .before .before .before .before .before .before .args .out .now)) _ (omega arith) (sym (c .before .before .before .before .before .byte-at .ensures) ∙ c .before .before .before .before .if2 .taken) (c .before .before .write-step .ensures)
+returns-2 c = step-back (c .before .before .before .before .before .before .before .before .before .args .text .now) (seenOf (c .before .before .before .before .before .before .before .before .before .args .p) (c .before .before .before .before .before .before .before .before .before .args .out .now)) _ (omega arith) (sym (c .before .before .before .before .before .byte-at .ensures) ∙ c .before .before .before .before .if2 .taken) (c .before .before .write-step .ensures)
 
 write-step-requires-2 : tie.Need-write-step-requires-2
 write-step-requires-2 c κs = search needs
 
 add-t17 : tie.Need-add-t17
-add-t17 c = let h = byte-there (c .before .before .before .before .before .before .before .before .before .before .before .args .text .now) (c .before .before .before .before .before .before .before .before .before .before .before .args .p .at) 63 (sym (c .before .before .before .before .before .before .byte-at .ensures) ∙ c .before .before .before .before .if3 .taken) (omega arith) in omega arith
+add-t17 c = let h = byte-there (c .before .before .before .before .before .before .before .before .before .before .args .text .now) (c .before .before .before .before .before .before .before .before .before .before .args .p .at) 63 (sym (c .before .before .before .before .before .before .byte-at .ensures) ∙ c .before .before .before .before .if3 .taken) (omega arith) in omega arith
 
 same-length-2 : tie.Need-same-length-2
 same-length-2 c = search needs
 
 returns-3 : tie.Need-returns-3
 unfolding gotOf
-returns-3 c = step-stay (c .before .before .before .before .before .before .before .before .before .before .before .args .text .now) (seenOf (c .before .before .before .before .before .before .before .before .before .before .before .args .p) (c .before .before .before .before .before .before .before .before .before .before .before .args .out .now)) _ (omega arith) (sym (c .before .before .before .before .before .before .byte-at .ensures) ∙ c .before .before .before .before .if3 .taken) (c .before .before .write-step2 .ensures)
+returns-3 c = step-stay (c .before .before .before .before .before .before .before .before .before .before .args .text .now) (seenOf (c .before .before .before .before .before .before .before .before .before .before .args .p) (c .before .before .before .before .before .before .before .before .before .before .args .out .now)) _ (omega arith) (sym (c .before .before .before .before .before .before .byte-at .ensures) ∙ c .before .before .before .before .if3 .taken) (c .before .before .write-step2 .ensures)
 
 write-step-requires-3 : tie.Need-write-step-requires-3
 write-step-requires-3 c κs = search needs
@@ -47,7 +47,7 @@ same-length-3 c = search needs
 
 returns-4 : tie.Need-returns-4
 unfolding gotOf
-returns-4 c = step-ahead (c .before .before .before .before .before .before .before .before .before .before .before .args .text .now) (seenOf (c .before .before .before .before .before .before .before .before .before .before .before .args .p) (c .before .before .before .before .before .before .before .before .before .before .before .args .out .now)) _ (omega arith) (λ h. c .before .before .before .before .before .if2 .left (c .before .before .before .before .before .before .byte-at .ensures ∙ h)) (λ h. c .before .before .before .before .if3 .left (c .before .before .before .before .before .before .byte-at .ensures ∙ h)) (c .before .before .write-step3 .ensures)
+returns-4 c = step-ahead (c .before .before .before .before .before .before .before .before .before .before .args .text .now) (seenOf (c .before .before .before .before .before .before .before .before .before .before .args .p) (c .before .before .before .before .before .before .before .before .before .before .args .out .now)) _ (omega arith) (λ h. c .before .before .before .before .before .if2 .left (c .before .before .before .before .before .before .byte-at .ensures ∙ h)) (λ h. c .before .before .before .before .if3 .left (c .before .before .before .before .before .before .byte-at .ensures ∙ h)) (c .before .before .write-step3 .ensures)
 
 pub step-of-spec : {M : Type 1} → statement M
 step-of-spec =

@@ -2,8 +2,8 @@
 use Prim.Native.Nat.{_-_}
 use borrow.Author.Needs.{needs}
 use Rattle.aldlf.specs.Constants.{edgeLimit}
-use Rattle.profile_tests.proofs.lines.edges.Statement.{statement}
-use Rattle.profile_tests.proofs.lines.edges.Tie as tie
+use Rattle.cases.proofs.sheets.edges.Statement.{statement}
+use Rattle.cases.proofs.sheets.edges.Tie as tie
 
 abbrev Inv-loop : tie.InvT-loop
 Inv-loop t e₀ end e = Unit {0}

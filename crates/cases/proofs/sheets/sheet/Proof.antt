@@ -2,8 +2,8 @@
 use Prim.Native.Nat.{_-_}
 use borrow.Author.Needs.{needs}
 use Rattle.aldlf.specs.Constants.{nodeLimit}
-use Rattle.profile_tests.proofs.lines.sheet.Statement.{statement}
-use Rattle.profile_tests.proofs.lines.sheet.Tie as tie
+use Rattle.cases.proofs.sheets.sheet.Statement.{statement}
+use Rattle.cases.proofs.sheets.sheet.Tie as tie
 
 abbrev Inv-loop : tie.InvT-loop
 Inv-loop t n k₀ k = Unit {0}

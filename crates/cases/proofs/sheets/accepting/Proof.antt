@@ -2,8 +2,8 @@
 use Prim.Native.Nat.{_-_}
 use borrow.Author.Needs.{needs}
 use Rattle.aldlf.specs.Constants.{stateLimit}
-use Rattle.profile_tests.proofs.lines.accepting.Statement.{statement}
-use Rattle.profile_tests.proofs.lines.accepting.Tie as tie
+use Rattle.cases.proofs.sheets.accepting.Statement.{statement}
+use Rattle.cases.proofs.sheets.accepting.Tie as tie
 
 abbrev Inv-loop : tie.InvT-loop
 Inv-loop bits rest₀ s₀ t4 rest s = Unit {0}

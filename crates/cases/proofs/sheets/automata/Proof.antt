@@ -2,8 +2,8 @@
 use Prim.Native.Nat.{_-_}
 use borrow.Author.Needs.{needs}
 use Rattle.aldlf.specs.Constants.{automatonLimit}
-use Rattle.profile_tests.proofs.lines.automata.Statement.{statement}
-use Rattle.profile_tests.proofs.lines.automata.Tie as tie
+use Rattle.cases.proofs.sheets.automata.Statement.{statement}
+use Rattle.cases.proofs.sheets.automata.Tie as tie
 
 abbrev Inv-loop : tie.InvT-loop
 Inv-loop k t n m₀ m = Unit {0}

@@ -1,4 +1,4 @@
-// The sheet that gives a table. A table does not say where the G lines stood among the E lines: they come first, and their states rise.
+// The sheet that gives a table, printed. A table does not say where the G lines stood among the E lines: they come first, and their states rise.
 use super::show;
 use aldlf::Automaton;
 use aldlf::Edge;
@@ -6,7 +6,7 @@ use aldlf::NodeLine;
 use aldlf::Table;
 
 // The node lines, each below the automata that stand directly above it.
-pub(crate) fn sheet(t: Table) {
+pub fn sheet(t: Table) {
     let n = t.used.nodes as usize;
     let mut k: usize = 0;
     while k < aldlf::NODES {
