@@ -28,10 +28,10 @@ fn rules(path: &Path) -> io::Result<Vec<u8>> {
     }
 }
 
-/// The folder's logs: every `.txt` but the sheet, in the order of their names.
+/// The folder's logs: every `.txt` but the sheet and, where it is said in one line too, the rule, in the order of their names.
 fn logs(folder: &Path) -> io::Result<Vec<PathBuf>> {
     let all: Vec<PathBuf> = read_dir(folder)?.map(|entry| entry.map(|e| e.path())).collect::<io::Result<_>>()?;
-    let is_log = |p: &PathBuf| p.extension().is_some_and(|x| x == "txt") && p.file_name().is_some_and(|n| n != "rules.txt");
+    let is_log = |p: &PathBuf| p.extension().is_some_and(|x| x == "txt") && p.file_name().is_some_and(|n| n != "rules.txt" && n != "rule.txt");
     let mut logs: Vec<PathBuf> = all.into_iter().filter(is_log).collect();
     logs.sort();
     Ok(logs)

@@ -36,6 +36,24 @@ module _ (text : List ℕ) where
   fitting-is q (large a e w p f) z = refused-not q 53 0 (omega arith) e z
   fitting-is q (fitting a e w p f) z = (a, w, p, f)
 
+  -- a number is a byte, a place two
+  small-is : (q : Read) (n p : ℕ) → n < 256 → p < 65536 → q ≡ refused n p → (answerOf q .number < 256) × (answerOf q .place < 65536)
+  small-is q n p l m e =
+      let h : answerOf q .number ≡ n = ap (λ (x : Read). answerOf x .number) e in
+      let k : answerOf q .place ≡ p = ap (λ (x : Read). answerOf x .place) e in
+      (omega arith, omega arith)
+
+  meant-small : (q : Read) → Meant text q → (answerOf q .number < 256) × (answerOf q .place < 65536)
+  meant-small q (long e l) = small-is q 50 0 (omega arith) (omega arith) e
+  meant-small q (misplaced x e l b) = small-is q 51 x (omega arith) (omega (arith, b .inside)) e
+  meant-small q (nested x e l d) = small-is q 52 0 (omega arith) (omega arith) e
+  meant-small q (stray a e w p) = small-is q 54 0 (omega arith) (omega arith) e
+  meant-small q (large a e w p f) = small-is q 53 0 (omega arith) (omega arith) e
+  meant-small q (fitting a e w p f) =
+      let h : answerOf q .number ≡ 0 = ap (λ (x : Read). answerOf x .number) e in
+      let k : answerOf q .place ≡ 0 = ap (λ (x : Read). answerOf x .place) e in
+      (omega arith, omega arith)
+
   is-meant : Meant text (readFormula text)
   is-meant = outcome-iff text (readFormula text) .0 refl
 
@@ -54,3 +72,7 @@ module _ (text : List ℕ) where
         agrees = λ z a w log i. read-agrees text _ a (accepted-is (readFormula text) is-meant z) w log i;
         judged = λ z a w log i l. read-verdict text _ a (accepted-is (readFormula text) is-meant z) w log i l;
       }
+
+  pub answer-small : (formulaAnswer text .number < 256) × (formulaAnswer text .place < 65536)
+  unfolding formulaAnswer
+  answer-small = meant-small (readFormula text) is-meant

@@ -3,16 +3,15 @@
 use Prim.Native.Nat.{ℕ}
 use native.Mathlib.Omega.{arith}
 use mathlib.Core.Path.{_≡_, refl, sym, ap, _∙_}
-use mathlib.Core.Bool.{true}
 use mathlib.Core.Logic.{⊎-elim}
 use mathlib.Core.List.{List}
 use lib.ListN.{length}
 use borrow.Author.Tests.{eq-eqb, ne-eqb}
-use Rattle.sheet.specs.Given.{wellFormed}
 use Rattle.sheet.proofs.Bools.{same}
 use Rattle.sheet.proofs.Question31.{well-formed-iff}
 use Rattle.compile.specs.declared.FormulaAnswer.{FormulaAnswer}
 use Rattle.compile.specs.Answers.{formulaAnswer}
+use Rattle.compile.proofs.Request.{formula-right}
 use Rattle.crossing.specs.Numbers.{tableSize, tableNumbers, tableOf}
 use Rattle.crossing.proofs.GivenTables.{given-crosses}
 use Rattle.exports.specs.Answers.{answerCode, accepted, refusal, Outcome, outcome}
@@ -68,6 +67,8 @@ module _ (text table : List ℕ) where
       absurd (omega arith))
       (same (length table) tableSize)
 
-  -- that question 31 accepts the table is the reader's to show
-  pub boundary-formula : wellFormed (f .table) ≡ true → formulaRead text table .answer ≡ accepted 0 → tableOf (formulaRead text table .slice) ≡ f .table
-  boundary-formula given e = ap tableOf (formula-accepted e .1) ∙ given-crosses (f .table) (well-formed-iff (f .table) .0 given)
+  -- question 31 accepts the table of an accepted text, so it crosses whole
+  pub boundary-formula : formulaRead text table .answer ≡ accepted 0 → tableOf (formulaRead text table .slice) ≡ f .table
+  boundary-formula e =
+      let p = formula-accepted e in
+      ap tableOf (p .1) ∙ given-crosses (f .table) (well-formed-iff (f .table) .0 (formula-right text .given (p .0)))

@@ -11,9 +11,9 @@ use Rattle.lines.specs.Lines.{entriesIn, verdictDigit, refusalLine, entr
 use Rattle.appending.proofs.Decimals.{decimal-length}
 
 -- a refusal
-pub refusal-length : (q k : ℕ) → q < 100 → k < 100000 → length (refusalLine q k) ≤ 17
+pub refusal-length : (q k : ℕ) → q < 1000 → k < 100000 → length (refusalLine q k) ≤ 18
 unfolding refusalLine
-refusal-length q k hq hk = simp length-append (omega (arith, decimal-length 1 q hq, decimal-length 4 k hk))
+refusal-length q k hq hk = simp length-append (omega (arith, decimal-length 2 q hq, decimal-length 4 k hk))
 
 verdict-le : (words : List ℕ) (i k : ℕ) → verdictDigit words i k < 10
 verdict-le words i k = go (ltb k nodeLimit && (ltb i (entriesIn words) && verdictAt words i k))

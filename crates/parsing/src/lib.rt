@@ -17,6 +17,9 @@ ghost use Rattle.parsing.specs.Written.{codeLimit, codedOf, textCode, re
 // How many instructions a text of at most 4,096 bytes has at most: two for each byte.
 pub const CODE: usize = 8192;
 
+// Levels of formulas and paths: the text itself, and one for each mark that may be open.
+const LEVELS: u8 = formula::DEPTH as u8 + 1;
+
 // What a text reads to. Number 0: a formula, whose instructions are the first `length` of the lent ones. Else the refusal's number, 50,
 // 51 with its place, 52 or 54, and what was lent holds anything.
 pub struct Written {
@@ -38,7 +41,7 @@ pub fn write_code(text: &[u8], out: &mut [u8]) -> Written
         modal: 0,
         stray: 0,
     };
-    let p = parse::formula(text, 0, 17, w, out);
+    let p = parse::formula(text, 0, LEVELS, w, out);
     finish(text.len(), p)
 }
 

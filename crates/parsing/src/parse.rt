@@ -1,5 +1,13 @@
 // The parser: formulas call paths for a path mark, and paths call formulas for their steps and tests. At each mark the depth that is left
 // falls; along a chain the text that is left falls.
+use super::signs::ANGLE;
+use super::signs::BACK;
+use super::signs::CURLY;
+use super::signs::CURLY_END;
+use super::signs::NOT;
+use super::signs::ROUND;
+use super::signs::ROUND_END;
+use super::signs::TEST;
 use super::signs::byte_at;
 use super::signs::close;
 use super::signs::is_prefix;
@@ -90,7 +98,7 @@ fn follow(w: Writing, h: Waiting, by: Operators, b: u16, out: &mut [u8]) -> Next
 fn end_of(b: u16) -> u8
     ensures { λ r. ⌜ (r ≡ endOf b) × (r < 256) ⌝ }
 {
-    if b == 60 {
+    if b == ANGLE {
         return b'>';
     }
     b']'
@@ -157,7 +165,7 @@ fn step_of(text: &[u8], p: Parse, out: &mut [u8]) -> Parse
         stray: p.stray,
     };
     let b = byte_at(text, at);
-    if b == 45 {
+    if b == BACK {
         let x = write_step(w, b'b', out);
         return Parse {
             number: 0,
@@ -167,7 +175,7 @@ fn step_of(text: &[u8], p: Parse, out: &mut [u8]) -> Parse
             stray: x.stray,
         };
     }
-    if b == 63 {
+    if b == TEST {
         let x = write_step(w, b't', out);
         return Parse {
             number: 0,
@@ -275,7 +283,7 @@ fn prefix(text: &[u8], at: usize, depth: u8, w: Writing, out: &mut [u8]) -> Pars
     ensures { λ r. ⌜ gotOf (seenOf r (now (out .exit))) ≡ mapGot (λ (x : Prefix). opened x (workOf w (now (out .entry)))) (prefixAt (now (text .entry)) (inner (now (text .entry)) depth) at) ⌝ }
 {
     let b = byte_at(text, at);
-    if b == 33 {
+    if b == NOT {
         let x = write(w, b'!', out);
         return Parse {
             number: 0,
@@ -296,9 +304,9 @@ fn prefix(text: &[u8], at: usize, depth: u8, w: Writing, out: &mut [u8]) -> Pars
 fn atom(text: &[u8], at: usize, depth: u8, w: Writing, out: &mut [u8]) -> Parse
     ensures { λ r. ⌜ gotOf (seenOf r (now (out .exit))) ≡ mapGot (λ (a : Formula). build a (workOf w (now (out .entry)))) (atomAt (now (text .entry)) (inner (now (text .entry)) depth) at) ⌝ }
 {
-    if byte_at(text, at) == 40 {
+    if byte_at(text, at) == ROUND {
         let p = formula(text, at + 1, depth, w, out);
-        return close(text, p, 41);
+        return close(text, p, ROUND_END);
     }
     simple(text, at, w, out)
 }
@@ -363,15 +371,15 @@ fn piece(text: &[u8], at: usize, depth: u8, w: Writing, out: &mut [u8]) -> Parse
     ensures { λ r. ⌜ gotOf (seenOf r (now (out .exit))) ≡ mapGot (λ (p : Path). buildIn p (workOf w (now (out .entry)))) (pieceAt (now (text .entry)) (inner (now (text .entry)) depth) at) ⌝ }
 {
     let b = byte_at(text, at);
-    if b == 123 {
+    if b == CURLY {
         let f = masked_at(w);
         let p = formula(text, at + 1, depth, f, out);
-        let q = close(text, p, 125);
+        let q = close(text, p, CURLY_END);
         return step_of(text, q, out);
     }
-    if b == 40 {
+    if b == ROUND {
         let p = path(text, at + 1, depth, w, out);
-        return close(text, p, 41);
+        return close(text, p, ROUND_END);
     }
     Parse {
         number: 51,

@@ -13,6 +13,32 @@ ghost use Rattle.formula.specs.Parse.{byte, closed, mapGot, isPair, isPrefix, f
 ghost use Rattle.parsing.specs.Work.{workOf};
 ghost use Rattle.parsing.specs.Build.{build, seenOf, gotOf, factBy, simpleAt, starsOn};
 
+// The bytes that the parser looks for: `!`, `(` and `)`, `*`, `-`, `<`, `?`, `[`, `f`, `t`, `{` and `}`. A byte is read as 16 bits, for there
+// is none past the end.
+pub(crate) const NOT: u16 = 33;
+
+pub(crate) const ROUND: u16 = 40;
+
+pub(crate) const ROUND_END: u16 = 41;
+
+const STAR: u16 = 42;
+
+pub(crate) const BACK: u16 = 45;
+
+pub(crate) const ANGLE: u16 = 60;
+
+pub(crate) const TEST: u16 = 63;
+
+const SQUARE: u16 = 91;
+
+const FACT: u16 = 102;
+
+const TRUE: u16 = 116;
+
+pub(crate) const CURLY: u16 = 123;
+
+pub(crate) const CURLY_END: u16 = 125;
+
 fn wide(x: u8) -> u16
     ensures { λ r. ⌜ r ≡ x ⌝ }
 {
@@ -33,7 +59,7 @@ pub(crate) fn byte_at(text: &[u8], at: usize) -> u16
 pub(crate) fn is_prefix(b: u16) -> bool
     ensures { λ r. ⌜ r ≡ isPrefix b ⌝ }
 {
-    (b == 33) | ((b == 60) | (b == 91))
+    (b == NOT) | ((b == ANGLE) | (b == SQUARE))
 }
 
 // What was read, if the byte b stands behind it.
@@ -75,10 +101,10 @@ pub(crate) fn simple(text: &[u8], at: usize, w: Writing, out: &mut [u8]) -> Pars
     ensures { λ r. ⌜ gotOf (seenOf r (now (out .exit))) ≡ mapGot (λ (a : Formula). build a (workOf w (now (out .entry)))) (simpleAt (now (text .entry)) at) ⌝ }
 {
     let b = byte_at(text, at);
-    if b == 116 {
+    if b == TRUE {
         return truth(text, at + 1, w, out);
     }
-    if b == 102 {
+    if b == FACT {
         return fact(text, at + 1, w, out);
     }
     Parse {
@@ -209,7 +235,7 @@ pub(crate) fn stars(text: &[u8], p: Parse, out: &mut [u8]) -> Parse
         modal: p.modal,
         stray: p.stray,
     };
-    while byte_at(text, at) == 42 {
+    while byte_at(text, at) == STAR {
         w = write(w, b'*', out);
         at += 1;
     }

@@ -1,5 +1,5 @@
 -- Every page is at most 40,000 bytes long: at most 512 lines of 6 bytes, a line for the rule, and a walk of at most 8,191 edges of at most 4 bytes.
-use Prim.Native.Nat.{ℕ, zero, suc, _*_, _≤_}
+use Prim.Native.Nat.{ℕ, zero, suc, _*_, _≤_, _<_}
 use mathlib.Core.Path.{_≡_, refl, ap, sym, _∙_}
 use mathlib.Core.Bool.{Bool, true, false, cond, _||_}
 use mathlib.Core.List.{List, [], _∷_, _++_}
@@ -15,28 +15,26 @@ use Rattle.aldlf.specs.Walks.{Shown, edgesOf, walkOf, walkOutcome}
 use Rattle.aldlf.specs.declared.Table.{Table}
 use Rattle.aldlf.proofs.Bools.{and-left, and-right}
 use Rattle.aldlf.proofs.Outcomes.{held-le, whole-number, whole-yes, whole-held}
-use Rattle.text.specs.Text.{byteLimit}
 use Rattle.sheet.specs.Questions.{readSheet}
 use Rattle.sheet.specs.Given.{wellFormed}
-use Rattle.sheet.specs.declared.SheetAnswer.{SheetAnswer}
 use Rattle.sheet.specs.Facts.{TableFacts}
 use Rattle.sheet.proofs.Facts.{table-facts}
 use Rattle.walk.proofs.Questions.{outcome-0, outcome-most}
 use Rattle.joblog.specs.Log.{LogRead, entries, refused, readLog}
 use Rattle.joblog.proofs.Answers.{Sound, sound-log}
 use Rattle.lines.specs.Lines.{refusalLine, verdictLines, walkLine, noWalkLine}
-use Rattle.report.specs.Page.{lentWords, walkLimit, pageLimit, ruleOf, refusedWalk, shownLine, walkPage, judgedPage, tablePage, logPage, sheetPage, pageOf, printedOf, pageOutcome}
+use Rattle.report.specs.Page.{lentWords, walkLimit, pageLimit, ruleOf, refusedWalk, shownLine, walkPage, judgedPage, tablePage, logPage, rulePage, pageOf, printedOf, pageOutcome}
 use Rattle.report.specs.declared.PageAnswer.{PageAnswer}
 use Rattle.lines.proofs.Lengths.{refusal-length, verdicts-length, walk-length}
 use Rattle.appending.specs.Placed.{Printed, placed}
 use Rattle.appending.proofs.Placed.{placed-fits, placed-count}
-use Rattle.report.proofs.Numbers.{first-le, Small, sheet-small, edges-small}
+use Rattle.report.proofs.Numbers.{first-le, sheet-small, edges-small}
 
-refused-walk-length : (q : ℕ) → q ≤ 40 → length (refusedWalk q) ≤ 17
+refused-walk-length : (q : ℕ) → q ≤ 40 → length (refusedWalk q) ≤ 18
 unfolding refusedWalk noWalkLine
 refused-walk-length q h = go (eqb q 38 || eqb q 39)
   where
-    go : (b : Bool) → length (cond b noWalkLine (refusalLine q 0)) ≤ 17
+    go : (b : Bool) → length (cond b noWalkLine (refusalLine q 0)) ≤ 18
     go true = simp length-append (omega arith)
     go false = refusal-length q 0 (omega arith) (omega arith)
 
@@ -94,18 +92,19 @@ log-page-length : (t : Table) (r : LogRead) → Sound entryLimit r → length (l
 log-page-length t (entries log) s = table-page-length t log
 log-page-length t (refused q k) s = omega (arith, refusal-length q k (omega (arith, s .number≤)) (omega (arith, s .line≤)))
 
-sheet-page-length : (a : SheetAnswer) (steps : List ℕ) → Small a byteLimit → length (sheetPage a steps) ≤ pageLimit
-unfolding sheetPage
-sheet-page-length a steps s = go (a .number) (a .line) (a .table) (s .number≤) (s .line≤)
-  where
-    go : (n k : ℕ) (t : Table) → n ≤ 11 → k ≤ byteLimit → length (sheetPage (record { number = n; line = k; table = t }) steps) ≤ pageLimit
-    go zero k t hn hk = log-page-length t (readLog steps entryLimit) (sound-log steps entryLimit)
-    go (suc q) k t hn hk = omega (arith, refusal-length (suc q) k (omega arith) (omega arith))
+-- by a rule as it was read: its refusal's number and place are those of a call, a byte and two
+pub rule-page-fits : (number place : ℕ) (t : Table) (steps : List ℕ) → number < 256 → place < 65536 → length (rulePage number place t steps) ≤ pageLimit
+unfolding rulePage
+rule-page-fits zero place t steps hn hp = log-page-length t (readLog steps entryLimit) (sound-log steps entryLimit)
+rule-page-fits (suc q) place t steps hn hp = omega (arith, refusal-length (suc q) place (omega arith) (omega arith))
 
 -- every page is within the limit
 pub page-fits : (rules steps : List ℕ) → length (pageOf rules steps) ≤ pageLimit
 unfolding pageOf
-page-fits rules steps = sheet-page-length (readSheet rules) steps (sheet-small rules)
+page-fits rules steps =
+    let a = readSheet rules in
+    let s = sheet-small rules in
+    rule-page-fits (a .number) (a .line) (a .table) steps (omega (arith, s .number≤)) (omega (arith, s .line≤))
 
 -- so a buffer of that many bytes takes every page whole
 pub page-whole : (rules steps lent : List ℕ) → pageLimit ≤ length lent

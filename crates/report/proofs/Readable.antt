@@ -30,7 +30,7 @@ use Rattle.lines.specs.Lines.{verdictLines, walkLine, noWalkLine}
 use Rattle.report.specs.Page.{walkLimit, ruleOf, lentWords, refusedWalk, shownLine, walkPage, judgedPage, tablePage, logPage, pageOf}
 use Rattle.report.specs.Readable.{walkOrNone, readPage}
 use Rattle.report.proofs.Accepted.{sheet-accepted}
-use Rattle.report.proofs.Pages.{sheet-read}
+use Rattle.report.proofs.Pages.{rule-read}
 
 all-yes : (a b c : Bool) → a ≡ true → b ≡ true → c ≡ true → firstNo ((a, 31) ∷ (b, 32) ∷ (c, 33) ∷ []) ≡ 0
 all-yes a b c p q r = rw (p, q, r)
@@ -74,14 +74,15 @@ module _ (t : Table) (log : List ℕ) (given : wellFormed t ≡ true) (some-entr
   fits : logFits log ≡ true
   fits = and-intro (le-leb 1 (length log) some-entry) (le-leb (length log) entryLimit few)
 
-  judged : wholeOutcome (wellFormed t) S log lentWords .number ≡ 0
+  -- the log is judged
+  pub judged : wholeOutcome (wellFormed t) S log lentWords .number ≡ 0
   unfolding wholeNumber
   judged =
       whole-number (wellFormed t) S log lentWords
       ∙ all-yes (wellFormed t) (logFits log) (leb (2 * length log) (length lentWords)) given fits (le-leb (2 * length log) (length lentWords) (omega (arith, length-replicate {A = ℕ} (2 * entryLimit) 0)))
 
   -- the words that the page reads are those of the log
-  words : take (2 * length log) (wholeOutcome (wellFormed t) S log lentWords .buffer) ≡ logWords S log
+  pub words : take (2 * length log) (wholeOutcome (wellFormed t) S log lentWords .buffer) ≡ logWords S log
   words = whole-words (wellFormed t) S log lentWords judged
 
   rule-there : ltb (ruleOf t) (S .nodes) ≡ true
@@ -121,11 +122,15 @@ module _ (t : Table) (log : List ℕ) (given : wellFormed t ≡ true) (some-entr
       ∙ ap (λ (ws : List ℕ). verdictLines (ruleOf t) (heldIn S log) ws ++ walkPage t log) words
       ∙ ap (λ (l : List ℕ). verdictLines (ruleOf t) (heldIn S log) (logWords S log) ++ l) walk-page
 
--- a sheet that was read and a log that was read: the page is their verdicts and the rule's walk
+-- a table that some sheet gives and a log that was read: the page is their verdicts and the rule's walk
+pub log-page-read : (t : Table) (steps log : List ℕ) → wellFormed t ≡ true → readLog steps entryLimit ≡ entries log → logPage t (readLog steps entryLimit) ≡ readPage t log
+log-page-read t steps log given e =
+    let x : Accepted entryLimit log = subst (Sound entryLimit) e (sound-log steps entryLimit) in
+    ap (logPage t) e ∙ table-page t log given (x .some) (x .limit)
+
+-- so of a sheet that was read
 pub read-page : (rules steps log : List ℕ) → readSheet rules .number ≡ 0 → readLog steps entryLimit ≡ entries log → pageOf rules steps ≡ readPage (readSheet rules .table) log
+unfolding pageOf
 read-page rules steps log z e =
     let t = readSheet rules .table in
-    let x : Accepted entryLimit log = subst (Sound entryLimit) e (sound-log steps entryLimit) in
-    sym (sheet-read rules steps (readSheet rules) refl z)
-    ∙ ap (logPage t) e
-    ∙ table-page t log (read-well-formed rules t (sheet-accepted rules z)) (x .some) (x .limit)
+    sym (rule-read (readSheet rules .number) (readSheet rules .line) t steps z) ∙ log-page-read t steps log (read-well-formed rules t (sheet-accepted rules z)) e

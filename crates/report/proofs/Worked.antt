@@ -10,14 +10,14 @@ use Rattle.sheet.specs.Given.{nodeFits, edgeFits, headFits, edgesFit, usedFits,
 use Rattle.joblog.specs.Log as log
 use Rattle.appending.specs.Appending.{digitsOf, decimal}
 use Rattle.lines.specs.Lines.{refusalLine, entryLine, entriesBelow, ruleLine, verdictLines, edgesBelow, walkLine, noWalkLine}
-use Rattle.report.specs.Page.{refusedWalk, shownLine, walkPage, judgedPage, tablePage, sheetPage, pageOf, pageOutcome}
+use Rattle.report.specs.Page.{refusedWalk, shownLine, walkPage, judgedPage, tablePage, rulePage, pageOf, pageOutcome}
 use Rattle.appending.specs.Placed.{placed}
 use Rattle.report.specs.Examples.{AllPrint, examples, AllAnswer, lendings}
 
 pub all-print : AllPrint examples
-unfolding pieces lines number numberIn allDigits valueOf sheetOf judge partVerdicts heldIn wholeNumber wholeOutcome walkIn walkOf walkNumber walkOutcome sheet.parsed sheet.knownLine sheet.allNumbers sheet.roomLeft sheet.belongs sheet.inRange sheet.newlyAccepting sheet.plainFrom sheet.plainStep sheet.question sheet.withNode sheet.withAutomaton sheet.withAccepting sheet.withEdge sheet.withLine sheet.added sheet.someEdge sheet.each sheet.whole sheet.finish sheet.readLines sheet.readSheet nodeFits edgeFits headFits edgesFit usedFits nodesFit automataFit nodesEnd automataEnd edgesEnd wellFormed log.allBelow log.rising log.wordOf log.factsOf log.readLines log.readLog digitsOf decimal refusalLine entryLine entriesBelow ruleLine verdictLines edgesBelow walkLine noWalkLine refusedWalk shownLine walkPage judgedPage tablePage sheetPage pageOf
+unfolding pieces lines number numberIn allDigits valueOf sheetOf judge partVerdicts heldIn wholeNumber wholeOutcome walkIn walkOf walkNumber walkOutcome sheet.parsed sheet.knownLine sheet.allNumbers sheet.roomLeft sheet.belongs sheet.inRange sheet.newlyAccepting sheet.plainFrom sheet.plainStep sheet.question sheet.withNode sheet.withAutomaton sheet.withAccepting sheet.withEdge sheet.withLine sheet.added sheet.someEdge sheet.each sheet.whole sheet.finish sheet.readLines sheet.readSheet nodeFits edgeFits headFits edgesFit usedFits nodesFit automataFit nodesEnd automataEnd edgesEnd wellFormed log.allBelow log.rising log.wordOf log.factsOf log.readLines log.readLog digitsOf decimal refusalLine entryLine entriesBelow ruleLine verdictLines edgesBelow walkLine noWalkLine refusedWalk shownLine walkPage judgedPage tablePage rulePage pageOf
 all-print = (refl, (refl, (refl, (refl, (refl, (refl, tt))))))
 
 pub all-answer : AllAnswer lendings
-unfolding pieces lines number numberIn allDigits valueOf sheet.parsed sheet.knownLine sheet.allNumbers sheet.roomLeft sheet.belongs sheet.inRange sheet.newlyAccepting sheet.plainFrom sheet.plainStep sheet.question sheet.withNode sheet.withAutomaton sheet.withAccepting sheet.withEdge sheet.withLine sheet.added sheet.someEdge sheet.each sheet.whole sheet.finish sheet.readLines sheet.readSheet digitsOf decimal refusalLine sheetPage pageOf placed pageOutcome
+unfolding pieces lines number numberIn allDigits valueOf sheet.parsed sheet.knownLine sheet.allNumbers sheet.roomLeft sheet.belongs sheet.inRange sheet.newlyAccepting sheet.plainFrom sheet.plainStep sheet.question sheet.withNode sheet.withAutomaton sheet.withAccepting sheet.withEdge sheet.withLine sheet.added sheet.someEdge sheet.each sheet.whole sheet.finish sheet.readLines sheet.readSheet digitsOf decimal refusalLine rulePage pageOf placed pageOutcome
 all-answer = (refl, (refl, (refl, tt)))

@@ -67,13 +67,17 @@ abbrev pub logPage : Table → LogRead → List ℕ
 logPage t (entries log) = tablePage t log
 logPage t (refused number line) = refusalLine number line
 
--- the page of a sheet as read and a log
-unfoldable pub sheetPage : SheetAnswer → List ℕ → List ℕ
-sheetPage a steps =
-    elim (a .number) [
-      | zero ↦ logPage (a .table) (readLog steps entryLimit)
-      | suc q ↦ refusalLine (suc q) (a .line)
+-- the page by a rule as it was read, to a table or to a refusal that names a place, and a log
+unfoldable pub rulePage : (number place : ℕ) → Table → (steps : List ℕ) → List ℕ
+rulePage number place t steps =
+    elim number [
+      | zero ↦ logPage t (readLog steps entryLimit)
+      | suc q ↦ refusalLine (suc q) place
     ]
+
+-- the page of a sheet as read and a log
+abbrev pub sheetPage : SheetAnswer → List ℕ → List ℕ
+sheetPage a steps = rulePage (a .number) (a .line) (a .table) steps
 
 -- the page of a sheet and a log
 unfoldable pub pageOf : (rules steps : List ℕ) → List ℕ

@@ -1,6 +1,7 @@
 // The printed page as bytes: the sheet is read, then the log, then the log is judged, then the rule's walk is shown.
 use aldlf::Entry;
 use aldlf::Node;
+use aldlf::Table;
 use appending::put_bytes;
 use joblog::LogAnswer;
 use judge::Judged;
@@ -21,7 +22,7 @@ ghost use Rattle.aldlf.specs.Constants.{entryLimit};
 ghost use Rattle.aldlf.specs.declared.Table.{Table};
 ghost use Rattle.packing.specs.Packed.{Packed};
 ghost use Rattle.joblog.specs.Log.{readLog};
-ghost use Rattle.report.specs.Page.{ruleOf, refusedWalk, walkPage, tablePage, logPage, pageOf, printedOf, pageOutcome};
+ghost use Rattle.report.specs.Page.{ruleOf, refusedWalk, walkPage, tablePage, logPage, rulePage, printedOf, pageOutcome};
 ghost use Rattle.appending.specs.Appending.{Stored, Appends};
 ghost use Rattle.appending.specs.Placed.{placed};
 
@@ -46,36 +47,46 @@ pub struct PageAnswer {
 pub fn page(rules: &[u8], steps: &[u8], out: &mut [u8]) -> PageAnswer
     ensures { λ r. ⌜ printedOf r (now (out .exit)) ≡ pageOutcome (now (rules .entry)) (now (steps .entry)) (now (out .entry)) ⌝ }
 {
+    let s = sheet::read_sheet(rules);
+    let t = s.table;
+    rule_page(s.number, s.line, t, steps, out)
+}
+
+// The same by a rule as it was read, from whatever text: to a table, with number 0, or to a refusal that names a place.
+// A room of the checker: its other crates call it, users do not.
+pub fn rule_page(number: u8, place: u16, table: Table, steps: &[u8], out: &mut [u8]) -> PageAnswer
+    ensures { λ r. ⌜ printedOf r (now (out .exit)) ≡ placed 44 (rulePage number place table (now (steps .entry))) (now (out .entry)) ⌝ }
+{
     if BYTES <= out.len() {
-        let n = put_page(out, rules, steps);
+        let n = put_page(out, number, place, table, steps);
         return PageAnswer {
             number: 0,
             bytes: n,
         };
     }
     if out.len() < SHORT {
-        return short_page(rules, steps, out);
+        return short_page(number, place, table, steps, out);
     }
-    long_page(rules, steps, out)
+    long_page(number, place, table, steps, out)
 }
 
 // By way of a buffer of SHORT bytes: of a page that does not fit there, more bytes are known than `out` has.
-fn short_page(rules: &[u8], steps: &[u8], out: &mut [u8]) -> PageAnswer
+fn short_page(number: u8, place: u16, table: Table, steps: &[u8], out: &mut [u8]) -> PageAnswer
     requires { ⌜ length (now out) < 1024 ⌝ }
-    ensures { λ r. ⌜ printedOf r (now (out .exit)) ≡ pageOutcome (now (rules .entry)) (now (steps .entry)) (now (out .entry)) ⌝ }
+    ensures { λ r. ⌜ printedOf r (now (out .exit)) ≡ placed 44 (rulePage number place table (now (steps .entry))) (now (out .entry)) ⌝ }
 {
     let mut buffer = [0u8; SHORT];
-    let n = put_page(&mut buffer, rules, steps);
+    let n = put_page(&mut buffer, number, place, table, steps);
     hand_over(&buffer[..n], out)
 }
 
 // By way of a buffer that takes every page.
-fn long_page(rules: &[u8], steps: &[u8], out: &mut [u8]) -> PageAnswer
+fn long_page(number: u8, place: u16, table: Table, steps: &[u8], out: &mut [u8]) -> PageAnswer
     requires { ⌜ length (now out) < 40000 ⌝ }
-    ensures { λ r. ⌜ printedOf r (now (out .exit)) ≡ pageOutcome (now (rules .entry)) (now (steps .entry)) (now (out .entry)) ⌝ }
+    ensures { λ r. ⌜ printedOf r (now (out .exit)) ≡ placed 44 (rulePage number place table (now (steps .entry))) (now (out .entry)) ⌝ }
 {
     let mut buffer = [0u8; BYTES];
-    let n = put_page(&mut buffer, rules, steps);
+    let n = put_page(&mut buffer, number, place, table, steps);
     hand_over(&buffer[..n], out)
 }
 
@@ -98,16 +109,14 @@ fn hand_over(page: &[u8], out: &mut [u8]) -> PageAnswer
 }
 
 // As many bytes of the page as fit in the first places of `out`, and how many those are.
-fn put_page(out: &mut [u8], rules: &[u8], steps: &[u8]) -> usize
-    ensures { λ r. ⌜ Stored (pageOf (now (rules .entry)) (now (steps .entry))) (now (out .entry)) (now (out .exit)) r ⌝ }
+fn put_page(out: &mut [u8], number: u8, place: u16, table: Table, steps: &[u8]) -> usize
+    ensures { λ r. ⌜ Stored (rulePage number place table (now (steps .entry))) (now (out .entry)) (now (out .exit)) r ⌝ }
 {
-    let s = sheet::read_sheet(rules);
-    if s.number != 0 {
-        return put_refusal(out, 0, s.number, s.line as usize);
+    if number != 0 {
+        return put_refusal(out, 0, number, place as usize);
     }
-    let t = s.table;
     let mut numbers = [0u32; PLACES];
-    pack(t, &mut numbers);
+    pack(table, &mut numbers);
     put_log_page(out, &numbers, steps)
 }
 

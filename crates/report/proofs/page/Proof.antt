@@ -1,56 +1,27 @@
--- page meets its contract: a buffer of 40,000 bytes takes every page; a smaller one is handed what fits. Assumes nothing.
+-- page meets its contract: it is the page by the rule that the sheet was read to. Assumes nothing.
 use borrow.Author.Needs.{needs}
 use denote.Ref.{now}
-use native.Mathlib.Omega.{arith}
-use Rattle.report.specs.Page.{pageOf, pageOutcome}
-use Rattle.report.proofs.Fits.{page-fits}
-use Rattle.appending.proofs.Placed.{placed-stored}
+use mathlib.Core.Path.{ap, _∙_}
+use Rattle.sheet.specs.declared.SheetAnswer.{SheetAnswer}
+use Rattle.appending.specs.Placed.{placed}
+use Rattle.report.specs.Page.{sheetPage, pageOf, pageOutcome}
 use Rattle.report.proofs.page.Statement.{statement}
 use Rattle.report.proofs.page.Tie as tie
 
-put-page-requires : tie.Need-put-page-requires
-put-page-requires c κs = search needs
+read-sheet-requires : tie.Need-read-sheet-requires
+read-sheet-requires c κs = search needs
+
+rule-page-requires : tie.Need-rule-page-requires
+rule-page-requires c κs = search needs
 
 same-length : tie.Need-same-length
 same-length c = search needs
 
 returns : tie.Need-returns
-unfolding pageOutcome
+unfolding pageOf pageOutcome
 returns c =
-    let a = c .before .before .before .before .before .before .before .before .args in
-    let p = c .before .before .put-page in
-    let rules = now (a .rules) in
-    let steps = now (a .steps) in
-    placed-stored 44 (pageOf rules steps) (now (a .out)) (p .last .0) (p .result) (omega (arith, page-fits rules steps, c .before .before .before .before .if1 .taken)) (p .ensures)
-
-short-page-requires : tie.Need-short-page-requires
-short-page-requires c κs = search needs
-
-same-length-2 : tie.Need-same-length-2
-same-length-2 c = search needs
-
-returns-2 : tie.Need-returns-2
-returns-2 c = search needs
-
-long-page-requires : tie.Need-long-page-requires
-long-page-requires c κs = search needs
-
-same-length-3 : tie.Need-same-length-3
-same-length-3 c = search needs
-
-returns-3 : tie.Need-returns-3
-returns-3 c = search needs
+    let a = c .before .before .before .before .before .before .before .before .before .args in
+    c .before .before .rule-page .ensures ∙ ap (λ (s : SheetAnswer). placed 44 (sheetPage s (now (a .steps))) (now (a .out))) (c .before .before .before .before .before .read-sheet .ensures)
 
 pub page-spec : {M : Type 1} → statement M
-page-spec =
-    tie.close
-    (tie.spec
-    put-page-requires
-    same-length
-    returns
-    short-page-requires
-    same-length-2
-    returns-2
-    long-page-requires
-    same-length-3
-    returns-3)
+page-spec = tie.close (tie.spec read-sheet-requires rule-page-requires same-length returns)

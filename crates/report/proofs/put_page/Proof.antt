@@ -1,17 +1,11 @@
--- put_page meets its contract: the sheet's refusal, or the page of its table and the log, from the first place on. Assumes nothing.
+-- put_page meets its contract: the rule's refusal, or the page of its table and the log, from the first place on. Assumes nothing.
 use denote.Ref.{now}
-use Rattle.report.specs.Page.{pageOf}
+use Rattle.report.specs.Page.{rulePage}
 use Rattle.appending.proofs.Storing.{appends-same, appends-whole}
-use Rattle.report.proofs.Pages.{sheet-refused, sheet-read}
+use Rattle.report.proofs.Pages.{rule-refused, rule-read}
 use borrow.Author.Needs.{needs}
 use Rattle.report.proofs.put_page.Statement.{statement}
 use Rattle.report.proofs.put_page.Tie as tie
-
-read-sheet-requires : tie.Need-read-sheet-requires
-read-sheet-requires c κs = search needs
-
-cast-put-refusal : tie.Need-cast-put-refusal
-cast-put-refusal c = search needs
 
 put-refusal-requires : tie.Need-put-refusal-requires
 put-refusal-requires c κs = search needs
@@ -21,10 +15,9 @@ same-length c = search needs
 
 returns : tie.Need-returns
 returns c =
-    let a = c .before .before .before .before .before .before .before .before .before .before .before .args in
-    let s = c .before .before .before .before .before .before .before .read-sheet in
-    let p = pageOf (now (a .rules)) (now (a .steps)) in
-    appends-whole p (now (a .out)) (c .before .before .put-refusal .last .0) (c .before .before .put-refusal .result) (appends-same (sheet-refused (now (a .rules)) (now (a .steps)) (s .result) (s .ensures) (c .before .before .before .before .before .if1 .taken)) (c .before .before .put-refusal .ensures))
+    let a = c .before .before .before .before .before .before .before .args in
+    let r = c .before .before .put-refusal in
+    appends-whole (rulePage (a .number) (a .place) (a .table) (now (a .steps))) (now (a .out)) (r .last .0) (r .result) (appends-same (rule-refused (a .number) (a .place) (a .table) (now (a .steps)) (c .before .before .before .before .if1 .taken)) (r .ensures))
 
 slice-aggregate-pack : tie.Need-slice-aggregate-pack
 slice-aggregate-pack c = search needs
@@ -43,18 +36,15 @@ same-length-2 c = search needs
 
 returns-2 : tie.Need-returns-2
 returns-2 c =
-    let a = c .before .before .before .before .before .before .before .before .before .before .before .before .before .before .before .args in
-    let s = c .before .before .before .before .before .before .before .before .before .before .before .read-sheet in
-    let p = pageOf (now (a .rules)) (now (a .steps)) in
-    appends-whole p (now (a .out)) (c .before .before .put-log-page .last .0) (c .before .before .put-log-page .result)
-    (appends-same (sheet-read (now (a .rules)) (now (a .steps)) (s .result) (s .ensures) (c .before .before .before .before .before .before .before .before .before .if1 .left)) (c .before .before .put-log-page .ensures (s .result .table) (c .before .before .before .before .before .before .pack .ensures)))
+    let a = c .before .before .before .before .before .before .before .before .before .before .before .args in
+    let p = c .before .before .put-log-page in
+    appends-whole (rulePage (a .number) (a .place) (a .table) (now (a .steps))) (now (a .out)) (p .last .0) (p .result)
+    (appends-same (rule-read (a .number) (a .place) (a .table) (now (a .steps)) (c .before .before .before .before .before .before .before .before .if1 .left)) (p .ensures (a .table) (c .before .before .before .before .before .before .pack .ensures)))
 
 pub put-page-spec : {M : Type 1} → statement M
 put-page-spec =
     tie.close
     (tie.spec
-    read-sheet-requires
-    cast-put-refusal
     put-refusal-requires
     same-length
     returns

@@ -1,0 +1,71 @@
+-- THE PAGE BY A FORMULA IS THAT OF ITS SHEET: a refused text has its line alone; an accepted one has the page of the table that it reads to, as a
+-- sheet's text that reads to the same table has it; and there a 1 stands exactly where the formula holds.
+use Prim.Native.Nat.{ℕ, _<_}
+use mathlib.Core.Path.{_≡_, ap, sym, subst, _∙_}
+use mathlib.Core.Logic.{_↔_, Iff·trans}
+use mathlib.Core.Bool.{true}
+use mathlib.Core.List.{List}
+use lib.ListN.{length}
+use Rattle.aldlf.specs.Constants.{entryLimit}
+use Rattle.aldlf.specs.Sheet.{sheetOf}
+use Rattle.aldlf.specs.Meaning.{Holds}
+use Rattle.aldlf.specs.Outcomes.{logWords}
+use Rattle.aldlf.specs.declared.Table.{Table}
+use Rattle.sheet.specs.Questions.{readSheet}
+use Rattle.sheet.specs.Given.{wellFormed}
+use Rattle.joblog.specs.Log.{entries, readLog}
+use Rattle.joblog.proofs.Answers.{Accepted, Sound, sound-log}
+use Rattle.lines.specs.Lines.{refusalLine, verdictDigit}
+use Rattle.formula.specs.Formula.{Formula, Sat}
+use Rattle.formula.specs.Grammar.{Writes}
+use Rattle.compile.specs.declared.FormulaAnswer.{FormulaAnswer}
+use Rattle.compile.specs.Answers.{formulaAnswer}
+use Rattle.compile.proofs.Request.{formula-right}
+use Rattle.report.specs.Page.{ruleOf, logPage, pageOf}
+use Rattle.report.specs.Readable.{readPage}
+use Rattle.report.proofs.Pages.{rule-refused, rule-read}
+use Rattle.report.proofs.Printed.{printed-iff}
+use Rattle.report.proofs.Readable.{judged, words, log-page-read}
+use Rattle.formula_report.specs.FormulaPage.{formulaPageOf}
+
+module _ (rule steps : List ℕ) where
+  abbrev f : FormulaAnswer
+  f = formulaAnswer rule
+
+  -- a refused formula: the log is not looked at
+  pub formula-refused : (f .number ≡ 0 → ⊥) → formulaPageOf rule steps ≡ refusalLine (f .number) (f .place)
+  unfolding formulaPageOf
+  formula-refused z = sym (rule-refused (f .number) (f .place) (f .table) steps z)
+
+  pub formula-read : f .number ≡ 0 → formulaPageOf rule steps ≡ logPage (f .table) (readLog steps entryLimit)
+  unfolding formulaPageOf
+  formula-read z = sym (rule-read (f .number) (f .place) (f .table) steps z)
+
+  -- a sheet that reads to the formula's table has the same page
+  pub sheet-same : (rules : List ℕ) → f .number ≡ 0 → readSheet rules .number ≡ 0 → readSheet rules .table ≡ f .table → pageOf rules steps ≡ formulaPageOf rule steps
+  unfolding pageOf
+  sheet-same rules z y e =
+      let a = readSheet rules in
+      sym (rule-read (a .number) (a .line) (a .table) steps y) ∙ ap (λ (t : Table). logPage t (readLog steps entryLimit)) e ∙ sym (formula-read z)
+
+-- a formula that was accepted, and a log that was read
+module _ (rule steps log : List ℕ) (z : formulaAnswer rule .number ≡ 0) (read : readLog steps entryLimit ≡ entries log) where
+  abbrev t : Table
+  t = formulaAnswer rule .table
+
+  given : wellFormed t ≡ true
+  given = formula-right rule .given z
+
+  -- the page is no refusal: the verdicts, the count held, and the rule's walk or `walk,none`
+  pub formula-page-read : formulaPageOf rule steps ≡ readPage t log
+  formula-page-read = formula-read rule steps z ∙ log-page-read t steps log given read
+
+  -- the digit that it prints at an entry is 1 exactly where the rule of the formula's sheet holds by Definition 4
+  digit-iff : (i : ℕ) → i < length log → (verdictDigit (logWords (sheetOf t) log) i (ruleOf t) ≡ 1) ↔ Holds (sheetOf t) log (ruleOf t) i
+  digit-iff i l =
+      let x : Accepted entryLimit log = subst (Sound entryLimit) read (sound-log steps entryLimit) in
+      subst (λ (ws : List ℕ). (verdictDigit ws i (ruleOf t) ≡ 1) ↔ Holds (sheetOf t) log (ruleOf t) i) (words t log given (x .some) (x .limit)) (printed-iff t log (judged t log given (x .some) (x .limit)) i l)
+
+  -- and so exactly where the formula that the text writes does
+  pub formula-printed-iff : (a : Formula) → Writes a rule → (i : ℕ) → i < length log → (verdictDigit (logWords (sheetOf t) log) i (ruleOf t) ≡ 1) ↔ Sat a log i
+  formula-printed-iff a w i l = Iff·trans (digit-iff i l) (formula-right rule .agrees z a w log i)

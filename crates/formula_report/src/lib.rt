@@ -1,0 +1,16 @@
+// The printed page by a rule that is one line of text: the formula is read, then its sheet's page is printed as any sheet's.
+use report::PageAnswer;
+use report::rule_page;
+ghost use mathlib.Core.Path.{_≡_};
+ghost use Rattle.report.specs.Page.{printedOf};
+ghost use Rattle.formula_report.specs.FormulaPage.{formulaPageOutcome};
+
+// The page in the first places of `out`, the rest of `out` as lent; a page that is longer than `out` is refused by 44. Every text
+// and every log has a page: that of a refused formula is the one line `refused,number,place`.
+pub fn formula_page(rule: &[u8], steps: &[u8], out: &mut [u8]) -> PageAnswer
+    ensures { λ r. ⌜ printedOf r (now (out .exit)) ≡ formulaPageOutcome (now (rule .entry)) (now (steps .entry)) (now (out .entry)) ⌝ }
+{
+    let f = compile::read_formula(rule);
+    let t = f.table;
+    rule_page(f.number, f.place, t, steps, out)
+}
