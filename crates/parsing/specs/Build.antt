@@ -9,7 +9,7 @@ use Rattle.formula.specs.Signs.{signBack, signTest, signStar, signFact, angleOp
 use Rattle.formula.specs.Formula.{Formula, always, fact, neg, both, either, some, every, Path, step, seq, alt, many}
 use Rattle.formula.specs.Code.{codeTrue, codeKeep, codeAnd, codeOr, codeNot, codeApply, codeBegin, codeSome, codeEvery, codeStep, codeKeepPart, codeSeq, codeAlt, codeMany}
 use Rattle.formula.specs.Parse.{Got, ok, bad, deep, Prefix, bang, angle, square, byte, trueAt, factAt}
-use Rattle.parsing.specs.declared.parse.Parse as parse
+use Rattle.parsing.specs.declared.answers.Parse as parse
 use Rattle.parsing.specs.declared.parse.Next as next
 use Rattle.parsing.specs.Work.{Work, workOf, put, putIf, masked, ended, stepped}
 

@@ -1,10 +1,11 @@
 // A formula's text to the list of instructions that its sheet is made from (document 02, S-7): refusals 50, 51, 52 and 54.
 // A room of the checker: its other crates call it, users do not (they call `compile`).
+mod answers;
 mod parse;
 mod signs;
 mod writing;
 
-use parse::Parse;
+use answers::Parse;
 use writing::Writing;
 ghost use mathlib.Core.Path.{_≡_};
 ghost use mathlib.Core.List.{List};

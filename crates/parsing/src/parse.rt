@@ -1,5 +1,9 @@
 // The parser: formulas call paths for a path mark, and paths call formulas for their steps and tests. At each mark the depth that is left
 // falls; along a chain the text that is left falls.
+use super::answers::Parse;
+use super::answers::no_formula;
+use super::answers::read_to;
+use super::answers::too_deep;
 use super::signs::ANGLE;
 use super::signs::BACK;
 use super::signs::CURLY;
@@ -27,16 +31,6 @@ ghost use Rattle.formula.specs.Formula.{Formula, Path};
 ghost use Rattle.formula.specs.Parse.{Prefix, mapGot, byte, isPrefix, atomAt, operandAt, pieceAt, inner, prefixAt};
 ghost use Rattle.parsing.specs.Work.{workOf, applied, ended};
 ghost use Rattle.parsing.specs.Build.{build, buildIn, seenOf, gotOf, nextOf, followed, opened, endOf, steppedBy};
-
-// Number 0: what was read ends before `at`, and the rest is as in `Writing`. 51: no formula goes on at `at`. 52: the mark before `at` is
-// too deep. Plain fields: a struct within a struct is copied as a block, which is slow to hand on.
-pub(crate) struct Parse {
-    pub(crate) number: usize,
-    pub(crate) at: usize,
-    pub(crate) length: usize,
-    pub(crate) modal: usize,
-    pub(crate) stray: usize,
-}
 
 // The operators of a chain: the one that binds first, the other, and the instruction that keeps a left side.
 pub(crate) struct Operators {
@@ -118,13 +112,7 @@ fn ended_path(p: Parse, code: u8, out: &mut [u8]) -> Parse
         stray: p.stray,
     };
     let x = write_end(w, code, out);
-    Parse {
-        number: 0,
-        at: p.at,
-        length: x.length,
-        modal: x.modal,
-        stray: x.stray,
-    }
+    read_to(p.at, x)
 }
 
 // The nodes of the prefixes that wait, on an atom that was read.
@@ -141,13 +129,7 @@ fn applied_to(p: Parse, count: usize, out: &mut [u8]) -> Parse
         stray: p.stray,
     };
     let x = write_prefixes(w, count, out);
-    Parse {
-        number: 0,
-        at: p.at,
-        length: x.length,
-        modal: x.modal,
-        stray: x.stray,
-    }
+    read_to(p.at, x)
 }
 
 // The step of a formula in `{` and `}`: `-` behind it is back, `?` test, anything else ahead.
@@ -167,32 +149,14 @@ fn step_of(text: &[u8], p: Parse, out: &mut [u8]) -> Parse
     let b = byte_at(text, at);
     if b == BACK {
         let x = write_step(w, b'b', out);
-        return Parse {
-            number: 0,
-            at: at + 1,
-            length: x.length,
-            modal: x.modal,
-            stray: x.stray,
-        };
+        return read_to(at + 1, x);
     }
     if b == TEST {
         let x = write_step(w, b't', out);
-        return Parse {
-            number: 0,
-            at: at + 1,
-            length: x.length,
-            modal: x.modal,
-            stray: x.stray,
-        };
+        return read_to(at + 1, x);
     }
     let x = write_step(w, b'a', out);
-    Parse {
-        number: 0,
-        at,
-        length: x.length,
-        modal: x.modal,
-        stray: x.stray,
-    }
+    read_to(at, x)
 }
 
 // Operands joined by `&` and `|`, where `depth` more marks may be open, the one around this formula counted.
@@ -200,13 +164,7 @@ pub(crate) fn formula(text: &[u8], start: usize, depth: u8, w0: Writing, out: &m
     ensures { λ r. ⌜ gotOf (seenOf r (now (out .exit))) ≡ mapGot (λ (a : Formula). build a (workOf w0 (now (out .entry)))) (inner (now (text .entry)) depth .formula start) ⌝ }
 {
     if depth == 0 {
-        return Parse {
-            number: 52,
-            at: start,
-            length: 0,
-            modal: 0,
-            stray: 0,
-        };
+        return too_deep(start);
     }
     let by = Operators {
         first: b'&',
@@ -235,13 +193,7 @@ pub(crate) fn formula(text: &[u8], start: usize, depth: u8, w0: Writing, out: &m
         let n = follow(x, h, by, b, out);
         let y = n.writing;
         if !n.more {
-            return Parse {
-                number: 0,
-                at: to,
-                length: y.length,
-                modal: y.modal,
-                stray: y.stray,
-            };
+            return read_to(to, y);
         }
         at = to + 1;
         w = y;
@@ -285,13 +237,7 @@ fn prefix(text: &[u8], at: usize, depth: u8, w: Writing, out: &mut [u8]) -> Pars
     let b = byte_at(text, at);
     if b == NOT {
         let x = write(w, b'!', out);
-        return Parse {
-            number: 0,
-            at: at + 1,
-            length: x.length,
-            modal: x.modal,
-            stray: x.stray,
-        };
+        return read_to(at + 1, x);
     }
     let begun = write(w, b'{', out);
     let p = path(text, at + 1, depth, begun, out);
@@ -316,13 +262,7 @@ fn path(text: &[u8], start: usize, depth: u8, w0: Writing, out: &mut [u8]) -> Pa
     ensures { λ r. ⌜ gotOf (seenOf r (now (out .exit))) ≡ mapGot (λ (p : Path). buildIn p (workOf w0 (now (out .entry)))) (inner (now (text .entry)) depth .path start) ⌝ }
 {
     if depth == 0 {
-        return Parse {
-            number: 52,
-            at: start,
-            length: 0,
-            modal: 0,
-            stray: 0,
-        };
+        return too_deep(start);
     }
     let by = Operators {
         first: b';',
@@ -352,13 +292,7 @@ fn path(text: &[u8], start: usize, depth: u8, w0: Writing, out: &mut [u8]) -> Pa
         let n = follow(x, h, by, b, out);
         let y = n.writing;
         if !n.more {
-            return Parse {
-                number: 0,
-                at: to,
-                length: y.length,
-                modal: y.modal,
-                stray: y.stray,
-            };
+            return read_to(to, y);
         }
         at = to + 1;
         w = y;
@@ -381,11 +315,5 @@ fn piece(text: &[u8], at: usize, depth: u8, w: Writing, out: &mut [u8]) -> Parse
         let p = path(text, at + 1, depth, w, out);
         return close(text, p, ROUND_END);
     }
-    Parse {
-        number: 51,
-        at,
-        length: 0,
-        modal: 0,
-        stray: 0,
-    }
+    no_formula(at)
 }

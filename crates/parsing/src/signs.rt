@@ -1,5 +1,7 @@
 // What stands in a formula's text without a formula or path of its own: single bytes, `true`, facts, stars.
-use super::parse::Parse;
+use super::answers::Parse;
+use super::answers::no_formula;
+use super::answers::read_to;
 use super::writing::Writing;
 use super::writing::write;
 ghost use mathlib.Core.Path.{_≡_};
@@ -79,21 +81,9 @@ pub(crate) fn close(text: &[u8], p: Parse, b: u16) -> Parse
         stray: p.stray,
     };
     if x == b {
-        return Parse {
-            number: 0,
-            at: at + 1,
-            length: w.length,
-            modal: w.modal,
-            stray: w.stray,
-        };
+        return read_to(at + 1, w);
     }
-    Parse {
-        number: 51,
-        at,
-        length: 0,
-        modal: 0,
-        stray: 0,
-    }
+    no_formula(at)
 }
 
 // `true` or a fact.
@@ -107,13 +97,7 @@ pub(crate) fn simple(text: &[u8], at: usize, w: Writing, out: &mut [u8]) -> Pars
     if b == FACT {
         return fact(text, at + 1, w, out);
     }
-    Parse {
-        number: 51,
-        at,
-        length: 0,
-        modal: 0,
-        stray: 0,
-    }
+    no_formula(at)
 }
 
 // After `t`: `r`, `u`, `e`.
@@ -122,40 +106,16 @@ fn truth(text: &[u8], at: usize, w: Writing, out: &mut [u8]) -> Parse
     ensures { λ r. ⌜ gotOf (seenOf r (now (out .exit))) ≡ mapGot (λ (a : Formula). build a (workOf w (now (out .entry)))) (trueAt (now (text .entry)) at) ⌝ }
 {
     if byte_at(text, at) != 114 {
-        return Parse {
-            number: 51,
-            at,
-            length: 0,
-            modal: 0,
-            stray: 0,
-        };
+        return no_formula(at);
     }
     if byte_at(text, at + 1) != 117 {
-        return Parse {
-            number: 51,
-            at: at + 1,
-            length: 0,
-            modal: 0,
-            stray: 0,
-        };
+        return no_formula(at + 1);
     }
     if byte_at(text, at + 2) != 101 {
-        return Parse {
-            number: 51,
-            at: at + 2,
-            length: 0,
-            modal: 0,
-            stray: 0,
-        };
+        return no_formula(at + 2);
     }
     let x = write(w, b'T', out);
-    Parse {
-        number: 0,
-        at: at + 3,
-        length: x.length,
-        modal: x.modal,
-        stray: x.stray,
-    }
+    read_to(at + 3, x)
 }
 
 // After `f`: 0 to 31 without padding, the longest that goes on.
@@ -165,13 +125,7 @@ fn fact(text: &[u8], at: usize, w: Writing, out: &mut [u8]) -> Parse
 {
     let b = byte_at(text, at);
     if !is_digit(b) {
-        return Parse {
-            number: 51,
-            at,
-            length: 0,
-            modal: 0,
-            stray: 0,
-        };
+        return no_formula(at);
     }
     let c = byte_at(text, at + 1);
     if is_pair(b, c) {
@@ -198,13 +152,7 @@ fn one_digit(at: usize, b: u16, w: Writing, out: &mut [u8]) -> Parse
     ensures { λ r. ⌜ gotOf (seenOf r (now (out .exit))) ≡ factBy (b - 48) (at + 1) (workOf w (now (out .entry))) ⌝ }
 {
     let x = write(w, (b - 48) as u8, out);
-    Parse {
-        number: 0,
-        at: at + 1,
-        length: x.length,
-        modal: x.modal,
-        stray: x.stray,
-    }
+    read_to(at + 1, x)
 }
 
 fn two_digits(at: usize, b: u16, c: u16, w: Writing, out: &mut [u8]) -> Parse
@@ -212,13 +160,7 @@ fn two_digits(at: usize, b: u16, c: u16, w: Writing, out: &mut [u8]) -> Parse
     ensures { λ r. ⌜ gotOf (seenOf r (now (out .exit))) ≡ factBy ((b - 48) * 10 + (c - 48)) (at + 2) (workOf w (now (out .entry))) ⌝ }
 {
     let x = write(w, ((b - 48) * 10 + (c - 48)) as u8, out);
-    Parse {
-        number: 0,
-        at: at + 2,
-        length: x.length,
-        modal: x.modal,
-        stray: x.stray,
-    }
+    read_to(at + 2, x)
 }
 
 // As many `*` as there are behind a piece.
@@ -239,11 +181,5 @@ pub(crate) fn stars(text: &[u8], p: Parse, out: &mut [u8]) -> Parse
         w = write(w, b'*', out);
         at += 1;
     }
-    Parse {
-        number: 0,
-        at,
-        length: w.length,
-        modal: w.modal,
-        stray: w.stray,
-    }
+    read_to(at, w)
 }

@@ -8,7 +8,7 @@ use borrow.Author.Tests.{not-true, not-false}
 use Rattle.formula.specs.Formula.{Formula, Path}
 use Rattle.formula.specs.Parse.{Inner, mapGot, isPrefix, operandAt, inner}
 use Rattle.parsing.specs.Work.{workOf}
-use Rattle.parsing.specs.Build.{build, buildIn, seenOf, gotOf, endOf}
+use Rattle.parsing.specs.Build.{build, buildIn, seenOf, endOf}
 use Rattle.parsing.proofs.Laws.{byte-there, yes-is, no-is}
 use Rattle.parsing.proofs.Chain.{inner-none, atom-bracket, atom-simple, piece-bracket, piece-none, piece-step, prefix-bang, prefix-path}
 use Rattle.parsing.proofs.Ahead.{prefix-stands}
@@ -35,6 +35,9 @@ use Rattle.parsing.proofs.parse.+atom+formula+operand+path+piece+prefix
 use Rattle.parsing.proofs.parse.prefix.Reads as prefix
 use Rattle.parsing.proofs.parse.prefix.Kinds as prefix-kinds
 use Rattle.parsing.proofs.parse.+atom+formula+operand+path+piece+prefix.Lts-prefix as prefix-lts
+use Rattle.parsing.proofs.answers.no_formula.Reads as no-formula-reads
+use Rattle.parsing.proofs.answers.read_to.Reads as read-to-reads
+use Rattle.parsing.proofs.answers.too_deep.Reads as too-deep-reads
 use Rattle.parsing.proofs.parse.applied_to.Reads as applied-to-reads
 use Rattle.parsing.proofs.parse.end_of.Reads as end-of-reads
 use Rattle.parsing.proofs.parse.ended_path.Reads as ended-path-reads
@@ -119,12 +122,16 @@ atom-calls t = (
 
 abbrev formula-calls : ℕ → formula-lts.Claims
 formula-calls t = (
+  too-deep-reads.Asked,
+  too-deep-reads.Learnt,
   operand-below t,
   operand.Post,
   byte-at-reads.Asked,
   byte-at-reads.Learnt,
   follow-reads.Asked,
   follow-reads.Learnt,
+  read-to-reads.Asked,
+  read-to-reads.Learnt,
 )
 
 abbrev operand-calls : ℕ → operand-lts.Claims
@@ -143,6 +150,8 @@ operand-calls t = (
 
 abbrev path-calls : ℕ → path-lts.Claims
 path-calls t = (
+  too-deep-reads.Asked,
+  too-deep-reads.Learnt,
   piece-below t,
   piece.Post,
   stars-reads.Asked,
@@ -151,6 +160,8 @@ path-calls t = (
   byte-at-reads.Learnt,
   follow-reads.Asked,
   follow-reads.Learnt,
+  read-to-reads.Asked,
+  read-to-reads.Learnt,
 )
 
 abbrev piece-calls : ℕ → piece-lts.Claims
@@ -167,6 +178,8 @@ piece-calls t = (
   step-of-reads.Learnt,
   path-below t,
   path.Post,
+  no-formula-reads.Asked,
+  no-formula-reads.Learnt,
 )
 
 abbrev prefix-calls : ℕ → prefix-lts.Claims
@@ -175,6 +188,8 @@ prefix-calls t = (
   byte-at-reads.Learnt,
   write-reads.Asked,
   write-reads.Learnt,
+  read-to-reads.Asked,
+  read-to-reads.Learnt,
   path-below t,
   path.Post,
   end-of-reads.Asked,
@@ -218,9 +233,11 @@ formula-Inv-loop text start depth out₀ by at₀ w₀ h₀ out at w h = (1 ≤ 
 abbrev formula-μ-loop : formula-lts.MeasureT-loop
 formula-μ-loop text start depth out₀ by at₀ w₀ h₀ out at w h = length text - at
 
+formula-too-deep-requires : (t : ℕ) → formula-lts.Need-too-deep-requires (formula-calls t) (formula-at t) formula.Post formula-Inv-loop formula-μ-loop
+formula-too-deep-requires t c κs = search needs
+
 formula-returns : (t : ℕ) → formula-lts.Need-returns (formula-calls t) (formula-at t) formula.Post formula-Inv-loop formula-μ-loop
-unfolding gotOf
-formula-returns t c = let a = c .before .before .before .args in ap (λ (z : Inner). mapGot (λ (x : Formula). build x (workOf (a .w0) (a .out .now))) (z .formula (a .start))) (sym (inner-none (a .text .now) (a .depth) (c .if1 .taken)))
+formula-returns t c = let a = c .before .before .before .before .args in c .too-deep .ensures (a .out .now) ∙ ap (λ (z : Inner). mapGot (λ (x : Formula). build x (workOf (a .w0) (a .out .now))) (z .formula (a .start))) (sym (inner-none (a .text .now) (a .depth) (c .before .if1 .taken)))
 
 formula-loop-holds : (t : ℕ) → formula-lts.Need-loop-holds (formula-calls t) (formula-at t) formula.Post formula-Inv-loop formula-μ-loop
 formula-loop-holds t c = let a = c .before .before .before .args in let l : 1 ≤ a .depth = omega arith in (l, omega arith, refl, formula-starts (a .text .now) (a .depth - 1) (a .depth) (a .start) (workOf (a .w0) (a .out .now)) l refl)
@@ -243,12 +260,14 @@ formula-byte-at-requires t c κs = search needs
 formula-follow-requires : (t : ℕ) → formula-lts.Need-follow-requires (formula-calls t) (formula-at t) formula.Post formula-Inv-loop formula-μ-loop
 formula-follow-requires t c κs = search needs
 
+formula-read-to-requires : (t : ℕ) → formula-lts.Need-read-to-requires (formula-calls t) (formula-at t) formula.Post formula-Inv-loop formula-μ-loop
+formula-read-to-requires t c κs = search needs
+
 formula-same-length-2 : (t : ℕ) → formula-lts.Need-same-length-2 (formula-calls t) (formula-at t) formula.Post formula-Inv-loop formula-μ-loop
 formula-same-length-2 t c = search needs
 
 formula-returns-3 : (t : ℕ) → formula-lts.Need-returns-3 (formula-calls t) (formula-at t) formula.Post formula-Inv-loop formula-μ-loop
-unfolding gotOf
-formula-returns-3 t c = formula-stop (c .before .before .before .before .before .before .before .before .before .before .before .before .before .before .before .before .before .args .text .now) (c .before .before .before .before .before .before .before .before .before .before .before .before .before .before .before .before .before .args .depth - 1) (c .before .before .before .before .before .before .before .before .before .before .before .before .before .loop .inv .3) (seenOf (c .before .before .before .before .before .before .before .before .before .before .before .operand .result) (c .before .before .before .before .before .before .before .before .before .before .before .operand .last .1 .1 .1 .1 .0)) (c .before .before .before .before .before .before .before .before .before .before .before .operand .ensures) (omega arith) (c .before .before .before .before .before .follow .result) (c .before .before .before .before .before .follow .last .1 .1 .1 .1 .0) (c .before .before .before .before .before .before .before .byte-at .result) (c .before .before .before .before .before .before .before .byte-at .ensures) (c .before .before .before .before .before .follow .ensures) (not-true (c .before .before .before .before .before .follow .result .more) (c .if3 .taken))
+formula-returns-3 t c = c .read-to .ensures (c .before .before .before .before .before .before .follow .last .1 .1 .1 .1 .0) ∙ formula-stop (c .before .before .before .before .before .before .before .before .before .before .before .before .before .before .before .before .before .before .args .text .now) (c .before .before .before .before .before .before .before .before .before .before .before .before .before .before .before .before .before .before .args .depth - 1) (c .before .before .before .before .before .before .before .before .before .before .before .before .before .before .loop .inv .3) (seenOf (c .before .before .before .before .before .before .before .before .before .before .before .before .operand .result) (c .before .before .before .before .before .before .before .before .before .before .before .before .operand .last .1 .1 .1 .1 .0)) (c .before .before .before .before .before .before .before .before .before .before .before .before .operand .ensures) (omega arith) (c .before .before .before .before .before .before .follow .result) (c .before .before .before .before .before .before .follow .last .1 .1 .1 .1 .0) (c .before .before .before .before .before .before .before .before .byte-at .result) (c .before .before .before .before .before .before .before .before .byte-at .ensures) (c .before .before .before .before .before .before .follow .ensures) (not-true (c .before .before .before .before .before .before .follow .result .more) (c .before .if3 .taken))
 
 formula-add-at : (t : ℕ) → formula-lts.Need-add-at (formula-calls t) (formula-at t) formula.Post formula-Inv-loop formula-μ-loop
 formula-add-at t c = let h = formula-more (c .before .before .before .before .before .before .before .before .before .before .before .before .before .before .before .before .before .args .text .now) (c .before .before .before .before .before .before .before .before .before .before .before .before .before .before .before .before .before .args .depth - 1) (c .before .before .before .before .before .before .before .before .before .before .before .before .before .loop .inv .3) (seenOf (c .before .before .before .before .before .before .before .before .before .before .before .operand .result) (c .before .before .before .before .before .before .before .before .before .before .before .operand .last .1 .1 .1 .1 .0)) (c .before .before .before .before .before .before .before .before .before .before .before .operand .ensures) (omega arith) (c .before .before .before .before .before .follow .result) (c .before .before .before .before .before .follow .last .1 .1 .1 .1 .0) (c .before .before .before .before .before .before .before .byte-at .result) (c .before .before .before .before .before .before .before .byte-at .ensures) (c .before .before .before .before .before .follow .ensures) (not-false (c .before .before .before .before .before .follow .result .more) (c .if3 .left)) in omega (arith, h .1, c .before .before .before .before .before .before .before .before .before .before .before .before .before .loop .inv .1)
@@ -310,9 +329,11 @@ path-Inv-loop text start depth out₀ by at₀ w₀ h₀ out at w h = (1 ≤ dep
 abbrev path-μ-loop : path-lts.MeasureT-loop
 path-μ-loop text start depth out₀ by at₀ w₀ h₀ out at w h = length text - at
 
+path-too-deep-requires : (t : ℕ) → path-lts.Need-too-deep-requires (path-calls t) (path-at t) path.Post path-Inv-loop path-μ-loop
+path-too-deep-requires t c κs = search needs
+
 path-returns : (t : ℕ) → path-lts.Need-returns (path-calls t) (path-at t) path.Post path-Inv-loop path-μ-loop
-unfolding gotOf
-path-returns t c = let a = c .before .before .before .args in ap (λ (z : Inner). mapGot (λ (x : Path). buildIn x (workOf (a .w0) (a .out .now))) (z .path (a .start))) (sym (inner-none (a .text .now) (a .depth) (c .if1 .taken)))
+path-returns t c = let a = c .before .before .before .before .args in c .too-deep .ensures (a .out .now) ∙ ap (λ (z : Inner). mapGot (λ (x : Path). buildIn x (workOf (a .w0) (a .out .now))) (z .path (a .start))) (sym (inner-none (a .text .now) (a .depth) (c .before .if1 .taken)))
 
 path-loop-holds : (t : ℕ) → path-lts.Need-loop-holds (path-calls t) (path-at t) path.Post path-Inv-loop path-μ-loop
 path-loop-holds t c = let a = c .before .before .before .args in let l : 1 ≤ a .depth = omega arith in (l, omega arith, refl, path-starts (a .text .now) (a .depth - 1) (a .depth) (a .start) (workOf (a .w0) (a .out .now)) l refl)
@@ -338,12 +359,14 @@ path-byte-at-requires t c κs = search needs
 path-follow-requires : (t : ℕ) → path-lts.Need-follow-requires (path-calls t) (path-at t) path.Post path-Inv-loop path-μ-loop
 path-follow-requires t c κs = search needs
 
+path-read-to-requires : (t : ℕ) → path-lts.Need-read-to-requires (path-calls t) (path-at t) path.Post path-Inv-loop path-μ-loop
+path-read-to-requires t c κs = search needs
+
 path-same-length-2 : (t : ℕ) → path-lts.Need-same-length-2 (path-calls t) (path-at t) path.Post path-Inv-loop path-μ-loop
-path-same-length-2 t c = c .before .before .before .before .before .follow .kept .1 .1 .1 .1 .0 ∙ c .before .before .before .before .before .before .before .before .before .before .before .stars .kept .1 .1 .0 ∙ c .before .before .before .before .before .before .before .before .before .before .before .before .before .before .before .piece .kept .1 .1 .1 .1 .0 ∙ c .before .before .before .before .before .before .before .before .before .before .before .before .before .before .before .before .before .loop .inv .2
+path-same-length-2 t c = c .before .before .before .before .before .before .follow .kept .1 .1 .1 .1 .0 ∙ c .before .before .before .before .before .before .before .before .before .before .before .before .stars .kept .1 .1 .0 ∙ c .before .before .before .before .before .before .before .before .before .before .before .before .before .before .before .before .piece .kept .1 .1 .1 .1 .0 ∙ c .before .before .before .before .before .before .before .before .before .before .before .before .before .before .before .before .before .before .loop .inv .2
 
 path-returns-3 : (t : ℕ) → path-lts.Need-returns-3 (path-calls t) (path-at t) path.Post path-Inv-loop path-μ-loop
-unfolding gotOf
-path-returns-3 t c = path-stop (c .before .before .before .before .before .before .before .before .before .before .before .before .before .before .before .before .before .before .before .before .before .args .text .now) (c .before .before .before .before .before .before .before .before .before .before .before .before .before .before .before .before .before .before .before .before .before .args .depth - 1) (c .before .before .before .before .before .before .before .before .before .before .before .before .before .before .before .before .before .loop .inv .3) (seenOf (c .before .before .before .before .before .before .before .before .before .before .before .before .before .before .before .piece .result) (c .before .before .before .before .before .before .before .before .before .before .before .before .before .before .before .piece .last .1 .1 .1 .1 .0)) (seenOf (c .before .before .before .before .before .before .before .before .before .before .before .stars .result) (c .before .before .before .before .before .before .before .before .before .before .before .stars .last .1 .1 .0)) (c .before .before .before .before .before .before .before .before .before .before .before .before .before .before .before .piece .ensures) (c .before .before .before .before .before .before .before .before .before .before .before .stars .ensures) (omega arith) (c .before .before .before .before .before .follow .result) (c .before .before .before .before .before .follow .last .1 .1 .1 .1 .0) (c .before .before .before .before .before .before .before .byte-at .result) (c .before .before .before .before .before .before .before .byte-at .ensures) (c .before .before .before .before .before .follow .ensures) (not-true (c .before .before .before .before .before .follow .result .more) (c .if3 .taken))
+path-returns-3 t c = c .read-to .ensures (c .before .before .before .before .before .before .follow .last .1 .1 .1 .1 .0) ∙ path-stop (c .before .before .before .before .before .before .before .before .before .before .before .before .before .before .before .before .before .before .before .before .before .before .args .text .now) (c .before .before .before .before .before .before .before .before .before .before .before .before .before .before .before .before .before .before .before .before .before .before .args .depth - 1) (c .before .before .before .before .before .before .before .before .before .before .before .before .before .before .before .before .before .before .loop .inv .3) (seenOf (c .before .before .before .before .before .before .before .before .before .before .before .before .before .before .before .before .piece .result) (c .before .before .before .before .before .before .before .before .before .before .before .before .before .before .before .before .piece .last .1 .1 .1 .1 .0)) (seenOf (c .before .before .before .before .before .before .before .before .before .before .before .before .stars .result) (c .before .before .before .before .before .before .before .before .before .before .before .before .stars .last .1 .1 .0)) (c .before .before .before .before .before .before .before .before .before .before .before .before .before .before .before .before .piece .ensures) (c .before .before .before .before .before .before .before .before .before .before .before .before .stars .ensures) (omega arith) (c .before .before .before .before .before .before .follow .result) (c .before .before .before .before .before .before .follow .last .1 .1 .1 .1 .0) (c .before .before .before .before .before .before .before .before .byte-at .result) (c .before .before .before .before .before .before .before .before .byte-at .ensures) (c .before .before .before .before .before .before .follow .ensures) (not-true (c .before .before .before .before .before .before .follow .result .more) (c .before .if3 .taken))
 
 path-add-at : (t : ℕ) → path-lts.Need-add-at (path-calls t) (path-at t) path.Post path-Inv-loop path-μ-loop
 path-add-at t c = let h = path-more (c .before .before .before .before .before .before .before .before .before .before .before .before .before .before .before .before .before .before .before .before .before .args .text .now) (c .before .before .before .before .before .before .before .before .before .before .before .before .before .before .before .before .before .before .before .before .before .args .depth - 1) (c .before .before .before .before .before .before .before .before .before .before .before .before .before .before .before .before .before .loop .inv .3) (seenOf (c .before .before .before .before .before .before .before .before .before .before .before .before .before .before .before .piece .result) (c .before .before .before .before .before .before .before .before .before .before .before .before .before .before .before .piece .last .1 .1 .1 .1 .0)) (seenOf (c .before .before .before .before .before .before .before .before .before .before .before .stars .result) (c .before .before .before .before .before .before .before .before .before .before .before .stars .last .1 .1 .0)) (c .before .before .before .before .before .before .before .before .before .before .before .before .before .before .before .piece .ensures) (c .before .before .before .before .before .before .before .before .before .before .before .stars .ensures) (omega arith) (c .before .before .before .before .before .follow .result) (c .before .before .before .before .before .follow .last .1 .1 .1 .1 .0) (c .before .before .before .before .before .before .before .byte-at .result) (c .before .before .before .before .before .before .before .byte-at .ensures) (c .before .before .before .before .before .follow .ensures) (not-false (c .before .before .before .before .before .follow .result .more) (c .if3 .left)) in omega (arith, h .1, c .before .before .before .before .before .before .before .before .before .before .before .before .before .before .before .before .before .loop .inv .1)
@@ -393,9 +416,11 @@ piece-same-length-2 t c = search needs
 piece-returns-2 : (t : ℕ) → piece-lts.Need-returns-2 (piece-calls t) (piece-at t) piece.Post
 piece-returns-2 t c = let L = c .before .before .before .path .last .1 .1 .1 .1 .0 in piece-bracket (c .before .before .before .before .before .before .before .before .before .before .args .text .now) (inner (c .before .before .before .before .before .before .before .before .before .before .args .text .now) (c .before .before .before .before .before .before .before .before .before .before .args .depth)) (c .before .before .before .before .before .before .before .before .before .before .args .at) (workOf (c .before .before .before .before .before .before .before .before .before .before .args .w) (c .before .before .before .before .before .before .before .before .before .before .args .out .now)) (sym (c .before .before .before .before .before .before .before .byte-at .ensures) ∙ c .before .before .before .before .before .if2 .taken) (seenOf (c .before .before .before .path .result) L) (seenOf (c .close2 .result) L) (c .before .before .before .path .ensures) (c .close2 .ensures L)
 
+piece-no-formula-requires : (t : ℕ) → piece-lts.Need-no-formula-requires (piece-calls t) (piece-at t) piece.Post
+piece-no-formula-requires t c κs = search needs
+
 piece-returns-3 : (t : ℕ) → piece-lts.Need-returns-3 (piece-calls t) (piece-at t) piece.Post
-unfolding gotOf
-piece-returns-3 t c = piece-none (c .before .before .before .before .before .args .text .now) (inner (c .before .before .before .before .before .args .text .now) (c .before .before .before .before .before .args .depth)) (c .before .before .before .before .before .args .at) (workOf (c .before .before .before .before .before .args .w) (c .before .before .before .before .before .args .out .now)) (λ h. c .before .if1 .left (c .before .before .byte-at .ensures ∙ h)) (λ h. c .if2 .left (c .before .before .byte-at .ensures ∙ h))
+piece-returns-3 t c = c .no-formula .ensures (c .before .before .before .before .before .before .args .out .now) ∙ piece-none (c .before .before .before .before .before .before .args .text .now) (inner (c .before .before .before .before .before .before .args .text .now) (c .before .before .before .before .before .before .args .depth)) (c .before .before .before .before .before .before .args .at) (workOf (c .before .before .before .before .before .before .args .w) (c .before .before .before .before .before .before .args .out .now)) (λ h. c .before .before .if1 .left (c .before .before .before .byte-at .ensures ∙ h)) (λ h. c .before .if2 .left (c .before .before .before .byte-at .ensures ∙ h))
 
 prefix-byte-at-requires : (t : ℕ) → prefix-lts.Need-byte-at-requires (prefix-calls t) (prefix-at t) prefix.Post
 prefix-byte-at-requires t c κs = search needs
@@ -403,15 +428,17 @@ prefix-byte-at-requires t c κs = search needs
 prefix-write-requires : (t : ℕ) → prefix-lts.Need-write-requires (prefix-calls t) (prefix-at t) prefix.Post
 prefix-write-requires t c κs = search needs
 
-prefix-add-t15 : (t : ℕ) → prefix-lts.Need-add-t15 (prefix-calls t) (prefix-at t) prefix.Post
-prefix-add-t15 t c = let h = byte-there (c .before .before .before .before .before .before .before .before .args .text .now) (c .before .before .before .before .before .before .before .before .args .at) 33 (sym (c .before .before .before .before .before .byte-at .ensures) ∙ c .before .before .before .before .if1 .taken) (omega arith) in omega arith
+prefix-add-read-to : (t : ℕ) → prefix-lts.Need-add-read-to (prefix-calls t) (prefix-at t) prefix.Post
+prefix-add-read-to t c = let h = byte-there (c .before .before .before .before .before .before .before .before .args .text .now) (c .before .before .before .before .before .before .before .before .args .at) 33 (sym (c .before .before .before .before .before .byte-at .ensures) ∙ c .before .before .before .before .if1 .taken) (omega arith) in omega arith
+
+prefix-read-to-requires : (t : ℕ) → prefix-lts.Need-read-to-requires (prefix-calls t) (prefix-at t) prefix.Post
+prefix-read-to-requires t c κs = search needs
 
 prefix-same-length : (t : ℕ) → prefix-lts.Need-same-length (prefix-calls t) (prefix-at t) prefix.Post
 prefix-same-length t c = search needs
 
 prefix-returns : (t : ℕ) → prefix-lts.Need-returns (prefix-calls t) (prefix-at t) prefix.Post
-unfolding gotOf
-prefix-returns t c = prefix-bang (c .before .before .before .before .before .before .before .before .args .text .now) (inner (c .before .before .before .before .before .before .before .before .args .text .now) (c .before .before .before .before .before .before .before .before .args .depth)) (c .before .before .before .before .before .before .before .before .args .at) (workOf (c .before .before .before .before .before .before .before .before .args .w) (c .before .before .before .before .before .before .before .before .args .out .now)) (sym (c .before .before .before .before .before .byte-at .ensures) ∙ c .before .before .before .before .if1 .taken) _ (c .before .before .write .ensures)
+prefix-returns t c = c .read-to .ensures (c .before .before .before .write .last .1 .1 .0) ∙ prefix-bang (c .before .before .before .before .before .before .before .before .before .args .text .now) (inner (c .before .before .before .before .before .before .before .before .before .args .text .now) (c .before .before .before .before .before .before .before .before .before .args .depth)) (c .before .before .before .before .before .before .before .before .before .args .at) (workOf (c .before .before .before .before .before .before .before .before .before .args .w) (c .before .before .before .before .before .before .before .before .before .args .out .now)) (sym (c .before .before .before .before .before .before .byte-at .ensures) ∙ c .before .before .before .before .before .if1 .taken) _ (c .before .before .before .write .ensures)
 
 prefix-write-requires-2 : (t : ℕ) → prefix-lts.Need-write-requires-2 (prefix-calls t) (prefix-at t) prefix.Post
 prefix-write-requires-2 t c κs = search needs
@@ -464,17 +491,22 @@ pub +atom+formula+operand+path+piece+prefix-spec : {M : Type 1} → statement M
     (atom-same-length-2 t)
     (atom-returns-2 t))
     (λ t. formula-lts.spec (
+      too-deep-reads.Asked,
+      too-deep-reads.Learnt,
       operand-below t,
       operand.Post,
       byte-at-reads.Asked,
       byte-at-reads.Learnt,
       follow-reads.Asked,
       follow-reads.Learnt,
+      read-to-reads.Asked,
+      read-to-reads.Learnt,
     )
     (formula-at t)
     formula.Post
     formula-Inv-loop
     formula-μ-loop
+    (formula-too-deep-requires t)
     (formula-returns t)
     (formula-loop-holds t)
     (formula-sub-operand t)
@@ -483,6 +515,7 @@ pub +atom+formula+operand+path+piece+prefix-spec : {M : Type 1} → statement M
     (formula-returns-2 t)
     (formula-byte-at-requires t)
     (formula-follow-requires t)
+    (formula-read-to-requires t)
     (formula-same-length-2 t)
     (formula-returns-3 t)
     (formula-add-at t)
@@ -518,6 +551,8 @@ pub +atom+formula+operand+path+piece+prefix-spec : {M : Type 1} → statement M
     (operand-loop-less t)
     (operand-loop-again t))
     (λ t. path-lts.spec (
+      too-deep-reads.Asked,
+      too-deep-reads.Learnt,
       piece-below t,
       piece.Post,
       stars-reads.Asked,
@@ -526,11 +561,14 @@ pub +atom+formula+operand+path+piece+prefix-spec : {M : Type 1} → statement M
       byte-at-reads.Learnt,
       follow-reads.Asked,
       follow-reads.Learnt,
+      read-to-reads.Asked,
+      read-to-reads.Learnt,
     )
     (path-at t)
     path.Post
     path-Inv-loop
     path-μ-loop
+    (path-too-deep-requires t)
     (path-returns t)
     (path-loop-holds t)
     (path-sub-piece t)
@@ -540,6 +578,7 @@ pub +atom+formula+operand+path+piece+prefix-spec : {M : Type 1} → statement M
     (path-returns-2 t)
     (path-byte-at-requires t)
     (path-follow-requires t)
+    (path-read-to-requires t)
     (path-same-length-2 t)
     (path-returns-3 t)
     (path-add-at t)
@@ -558,6 +597,8 @@ pub +atom+formula+operand+path+piece+prefix-spec : {M : Type 1} → statement M
       step-of-reads.Learnt,
       path-below t,
       path.Post,
+      no-formula-reads.Asked,
+      no-formula-reads.Learnt,
     )
     (piece-at t)
     piece.Post
@@ -574,12 +615,15 @@ pub +atom+formula+operand+path+piece+prefix-spec : {M : Type 1} → statement M
     (piece-close-requires-2 t)
     (piece-same-length-2 t)
     (piece-returns-2 t)
+    (piece-no-formula-requires t)
     (piece-returns-3 t))
     λ t. prefix-lts.spec (
       byte-at-reads.Asked,
       byte-at-reads.Learnt,
       write-reads.Asked,
       write-reads.Learnt,
+      read-to-reads.Asked,
+      read-to-reads.Learnt,
       path-below t,
       path.Post,
       end-of-reads.Asked,
@@ -593,7 +637,8 @@ pub +atom+formula+operand+path+piece+prefix-spec : {M : Type 1} → statement M
     prefix.Post
     (prefix-byte-at-requires t)
     (prefix-write-requires t)
-    (prefix-add-t15 t)
+    (prefix-add-read-to t)
+    (prefix-read-to-requires t)
     (prefix-same-length t)
     (prefix-returns t)
     (prefix-write-requires-2 t)

@@ -6,7 +6,7 @@ use borrow.Author.Needs.{needs}
 use Rattle.text.specs.Text.{isDigit}
 use Rattle.formula.specs.Parse.{byte, isPair}
 use Rattle.parsing.specs.Work.{workOf}
-use Rattle.parsing.specs.Build.{gotOf, factBy}
+use Rattle.parsing.specs.Build.{factBy}
 use Rattle.parsing.proofs.Laws.{byte-there, no-is, yes-is, digit-range, pair-range, fact-1, fact-2, fact-3}
 use Rattle.parsing.proofs.signs.fact.Statement.{statement}
 use Rattle.parsing.proofs.signs.fact.Tie as tie
@@ -17,9 +17,11 @@ byte-at-requires c κs = search needs
 is-digit-requires : tie.Need-is-digit-requires
 is-digit-requires c κs = search needs
 
+no-formula-requires : tie.Need-no-formula-requires
+no-formula-requires c κs = search needs
+
 returns : tie.Need-returns
-unfolding gotOf
-returns c = fact-1 (c .before .before .before .before .before .args .text .now) (c .before .before .before .before .before .args .at) (workOf (c .before .before .before .before .before .args .w) (c .before .before .before .before .before .args .out .now)) (ap (λ (z : ℕ). isDigit z) (sym (c .before .before .byte-at .ensures)) ∙ no-is (c .before .is-digit .ensures) (c .if1 .taken))
+returns c = c .no-formula .ensures (c .before .before .before .before .before .before .args .out .now) ∙ fact-1 (c .before .before .before .before .before .before .args .text .now) (c .before .before .before .before .before .before .args .at) (workOf (c .before .before .before .before .before .before .args .w) (c .before .before .before .before .before .before .args .out .now)) (ap (λ (z : ℕ). isDigit z) (sym (c .before .before .before .byte-at .ensures)) ∙ no-is (c .before .before .is-digit .ensures) (c .before .if1 .taken))
 
 add-byte-at : tie.Need-add-byte-at
 add-byte-at c = search needs
@@ -54,6 +56,7 @@ fact-spec =
     (tie.spec
     byte-at-requires
     is-digit-requires
+    no-formula-requires
     returns
     add-byte-at
     byte-at-requires-2

@@ -1,11 +1,10 @@
 -- `one_digit` meets its contract. Assumes nothing.
 use Prim.Native.Nat.{_+_}
-use mathlib.Core.Path.{ap}
+use mathlib.Core.Path.{ap, _∙_}
 use native.Mathlib.Omega.{arith}
 use borrow.Author.Needs.{needs}
 use Rattle.formula.specs.Parse.{ok}
-use Rattle.parsing.specs.Work.{Work, workOf}
-use Rattle.parsing.specs.Build.{gotOf}
+use Rattle.parsing.specs.Work.{Work}
 use Rattle.parsing.proofs.Laws.{digit-range}
 use Rattle.parsing.proofs.signs.one_digit.Statement.{statement}
 use Rattle.parsing.proofs.signs.one_digit.Tie as tie
@@ -19,16 +18,19 @@ cast-write c = let h = digit-range (c .before .args .b) (c .before .pre .0) in o
 write-requires : tie.Need-write-requires
 write-requires c κs = search needs
 
-add-t10 : tie.Need-add-t10
-add-t10 c = search needs
+add-read-to : tie.Need-add-read-to
+add-read-to c = search needs
+
+read-to-requires : tie.Need-read-to-requires
+read-to-requires c κs = search needs
 
 same-length : tie.Need-same-length
 same-length c = search needs
 
 returns : tie.Need-returns
-unfolding gotOf
-returns c = ap (λ (z : Work). ok z (c .before .before .before .before .before .args .at + 1)) (c .before .before .write .ensures)
+returns c = c .read-to .ensures (c .before .before .before .write .last .1 .1 .0) ∙ ap (λ (z : Work). ok z (c .before .before .before .before .before .before .args .at + 1)) (c .before .before .before .write .ensures)
 
 pub one-digit-spec : {M : Type 1} → statement M
 one-digit-spec =
-    tie.close (tie.spec sub-write cast-write write-requires add-t10 same-length returns)
+    tie.close
+    (tie.spec sub-write cast-write write-requires add-read-to read-to-requires same-length returns)

@@ -3,7 +3,6 @@ use mathlib.Core.Path.{sym, _∙_}
 use native.Mathlib.Omega.{arith}
 use borrow.Author.Needs.{needs}
 use Rattle.parsing.specs.Work.{workOf}
-use Rattle.parsing.specs.Build.{gotOf}
 use Rattle.parsing.proofs.Laws.{byte-there, simple-true, simple-fact, simple-none}
 use Rattle.parsing.proofs.signs.simple.Statement.{statement}
 use Rattle.parsing.proofs.signs.simple.Tie as tie
@@ -35,9 +34,11 @@ same-length-2 c = search needs
 returns-2 : tie.Need-returns-2
 returns-2 c = simple-fact (c .before .before .before .before .before .before .before .before .before .args .text .now) (c .before .before .before .before .before .before .before .before .before .args .at) (workOf (c .before .before .before .before .before .before .before .before .before .args .w) (c .before .before .before .before .before .before .before .before .before .args .out .now)) (sym (c .before .before .before .before .before .before .byte-at .ensures) ∙ c .before .before .before .before .if2 .taken) _ (c .before .before .fact .ensures)
 
+no-formula-requires : tie.Need-no-formula-requires
+no-formula-requires c κs = search needs
+
 returns-3 : tie.Need-returns-3
-unfolding gotOf
-returns-3 c = simple-none (c .before .before .before .before .before .args .text .now) (c .before .before .before .before .before .args .at) (workOf (c .before .before .before .before .before .args .w) (c .before .before .before .before .before .args .out .now)) (λ h. c .before .if1 .left (c .before .before .byte-at .ensures ∙ h)) (λ h. c .if2 .left (c .before .before .byte-at .ensures ∙ h))
+returns-3 c = c .no-formula .ensures (c .before .before .before .before .before .before .args .out .now) ∙ simple-none (c .before .before .before .before .before .before .args .text .now) (c .before .before .before .before .before .before .args .at) (workOf (c .before .before .before .before .before .before .args .w) (c .before .before .before .before .before .before .args .out .now)) (λ h. c .before .before .if1 .left (c .before .before .before .byte-at .ensures ∙ h)) (λ h. c .before .if2 .left (c .before .before .before .byte-at .ensures ∙ h))
 
 pub simple-spec : {M : Type 1} → statement M
 simple-spec =
@@ -52,4 +53,5 @@ simple-spec =
     fact-requires
     same-length-2
     returns-2
+    no-formula-requires
     returns-3)

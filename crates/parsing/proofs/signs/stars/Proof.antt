@@ -5,7 +5,7 @@ use native.Mathlib.Omega.{arith}
 use borrow.Author.Needs.{needs}
 use lib.ListN.{length}
 use Rattle.parsing.specs.Work.{workOf}
-use Rattle.parsing.specs.Build.{seenOf, gotOf, starsBy}
+use Rattle.parsing.specs.Build.{seenOf, starsBy}
 use Rattle.parsing.proofs.Laws.{byte-there, stars-off, stars-start, stars-stop, stars-more}
 use Rattle.parsing.proofs.signs.stars.Statement.{statement}
 use Rattle.parsing.proofs.signs.stars.Tie as tie
@@ -37,12 +37,14 @@ loop-less c = let h = byte-there (c .before .before .before .before .before .bef
 loop-again : tie.Need-loop-again Inv-loop μ-loop
 loop-again c = let l = c .before .before .before .before .before .before .loop in let a = c .before .before .before .before .before .before .before .before .before .before .args in let m = stars-more (a .text .now) (l .inv .1) (workOf (l .w) (l .out)) _ (l .at) (starsBy (a .text .now) (length (a .text .now)) (seenOf (a .p) (a .out .now) .work) (a .p .at)) (sym (c .before .before .before .before .before .byte-at .ensures) ∙ c .before .before .before .before .if2 .taken) (c .before .before .write .ensures) (l .inv .2) (l .inv .3) in (search needs, m .0, m .1, m .2)
 
+read-to-requires : tie.Need-read-to-requires Inv-loop μ-loop
+read-to-requires c κs = search needs
+
 same-length : tie.Need-same-length Inv-loop μ-loop
-same-length c = c .before .before .loop .inv .0
+same-length c = c .before .before .before .loop .inv .0
 
 returns-2 : tie.Need-returns-2 Inv-loop μ-loop
-unfolding gotOf
-returns-2 c = let l = c .before .before .loop in let a = c .before .before .before .before .before .before .args in stars-stop (a .text .now) (l .inv .1) (workOf (l .w) (l .out)) (l .at) (λ h. c .if2 .left (c .before .byte-at .ensures ∙ h)) ∙ sym (l .inv .3) ∙ sym (stars-start (a .text .now) (seenOf (a .p) (a .out .now)) (omega arith))
+returns-2 c = let l = c .before .before .before .loop in let a = c .before .before .before .before .before .before .before .args in c .read-to .ensures (l .out) ∙ stars-stop (a .text .now) (l .inv .1) (workOf (l .w) (l .out)) (l .at) (λ h. c .before .if2 .left (c .before .before .byte-at .ensures ∙ h)) ∙ sym (l .inv .3) ∙ sym (stars-start (a .text .now) (seenOf (a .p) (a .out .now)) (omega arith))
 
 pub stars-spec : {M : Type 1} → statement M
 stars-spec =
@@ -57,5 +59,6 @@ stars-spec =
     add-at
     loop-less
     loop-again
+    read-to-requires
     same-length
     returns-2)

@@ -1,11 +1,10 @@
 -- `two_digits` meets its contract. Assumes nothing.
 use Prim.Native.Nat.{_+_}
-use mathlib.Core.Path.{ap}
+use mathlib.Core.Path.{ap, _∙_}
 use native.Mathlib.Omega.{arith}
 use borrow.Author.Needs.{needs}
 use Rattle.formula.specs.Parse.{ok}
-use Rattle.parsing.specs.Work.{Work, workOf}
-use Rattle.parsing.specs.Build.{gotOf}
+use Rattle.parsing.specs.Work.{Work}
 use Rattle.parsing.proofs.Laws.{pair-range}
 use Rattle.parsing.proofs.signs.two_digits.Statement.{statement}
 use Rattle.parsing.proofs.signs.two_digits.Tie as tie
@@ -28,15 +27,17 @@ cast-write c = let h = pair-range (c .before .args .b) (c .before .args .c) (c .
 write-requires : tie.Need-write-requires
 write-requires c κs = search needs
 
-add-t14 : tie.Need-add-t14
-add-t14 c = search needs
+add-read-to : tie.Need-add-read-to
+add-read-to c = search needs
+
+read-to-requires : tie.Need-read-to-requires
+read-to-requires c κs = search needs
 
 same-length : tie.Need-same-length
 same-length c = search needs
 
 returns : tie.Need-returns
-unfolding gotOf
-returns c = ap (λ (z : Work). ok z (c .before .before .before .before .before .args .at + 2)) (c .before .before .write .ensures)
+returns c = c .read-to .ensures (c .before .before .before .write .last .1 .1 .0) ∙ ap (λ (z : Work). ok z (c .before .before .before .before .before .before .args .at + 2)) (c .before .before .before .write .ensures)
 
 pub two-digits-spec : {M : Type 1} → statement M
 two-digits-spec =
@@ -48,6 +49,7 @@ two-digits-spec =
     add-write
     cast-write
     write-requires
-    add-t14
+    add-read-to
+    read-to-requires
     same-length
     returns)
