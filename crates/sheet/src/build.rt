@@ -1,4 +1,4 @@
-// The reading of the lines so far, and the same with one line more.
+// The reading of the lines so far, and the same with one line more. Other crates of the checker call `power`, and nothing else here.
 use super::empty::empty_table;
 use super::line::Line;
 use super::questions::last_of;
