@@ -21,7 +21,7 @@ pub byte-out : (text : List ℕ) (at : ℕ) → length text ≤ at → byte text
 unfolding byte
 byte-out text at h = rw (le-ltb at (length text) h)
 
-byte-there : (text : List ℕ) (at b : ℕ) → byte text at ≡ b → b < 256 → at < length text
+pub byte-there : (text : List ℕ) (at b : ℕ) → byte text at ≡ b → b < 256 → at < length text
 unfolding byte
 byte-there text at b e l = go (ltb at (length text)) refl e
   where

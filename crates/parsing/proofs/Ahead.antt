@@ -12,7 +12,8 @@ use Rattle.formula.specs.Formula.{Formula, Path, both, either, seq, alt, many}
 use Rattle.formula.specs.Parse.{Got, ok, bad, deep, Inner, Held, nothing, held, joined, Prefix, bang, angle, square, wrap, mapGot, isPair, isPrefix, prefixed, byte, closed, chained, chain, trueAt, factAt, stepped, starredFrom, starred, atomAt, prefixAt, operandFrom, operandAt, pieceAt, starredAt, inner}
 use Rattle.parsing.specs.Work.{Work}
 use Rattle.parsing.specs.Build.{Seen, gotOf}
-use Rattle.parsing.proofs.Laws.{byte-there, got-ok, digit-range, pair-range}
+use Rattle.formula.proofs.Bytes.{byte-there}
+use Rattle.parsing.proofs.Laws.{got-ok, digit-range, pair-range}
 use Rattle.parsing.proofs.Chain.{Read, is, read-ok}
 
 module _ (text : List ℕ) where

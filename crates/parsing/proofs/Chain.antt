@@ -15,7 +15,8 @@ use Rattle.formula.specs.Code.{codeKeep, codeAnd, codeOr, codeNot, codeBegin, c
 use Rattle.parsing.specs.Work.{Work, put, putIf, masked, ended}
 use Rattle.parsing.specs.Work as work
 use Rattle.parsing.specs.Build.{build, buildIn, Seen, gotOf, Next, goes, stops, pickNext, followed, endOf, opened, simpleAt, steppedBy, starsOn}
-use Rattle.parsing.proofs.Laws.{byte-there, got-ok, got-fail, map-closed, map-starred}
+use Rattle.formula.proofs.Bytes.{byte-there}
+use Rattle.parsing.proofs.Laws.{fuel-down, got-ok, got-fail, map-closed, map-starred}
 
 no : {A : Type 0} → _≡_ {A = ℕ} 0 1 → A
 no z = absurd (omega arith)
@@ -111,17 +112,10 @@ module _ {X : Type 0} (text : List ℕ) (f g : X → X → X) (b c keep : ℕ) (
       v-is : putIf second c (putIf first b w) ≡ mk (joined g o (joined f a x)) w₀
       v-is = ap (λ (z : Bool). putIf z c (putIf first b w)) o-is ∙ ap (λ (z : Work). putIf (isHeld o) c z) u-is ∙ join-o o (joined f a x) w₀
 
-      fuel-down : to < length text → (m : ℕ) × (n ≡ suc m)
-      fuel-down h = down n fuel
-        where
-          down : (n : ℕ) → length text ≤ to + n → (m : ℕ) × (n ≡ suc m)
-          down zero l = absurd (omega arith)
-          down (suc m) l = (m, refl)
-
       stands-more : (o′ a′ : Held X) (second′ first′ : Bool) (v : Work) → to < length text → v ≡ kept mk keep a′ (kept mk keep o′ w₀) → second′ ≡ isHeld o′ → first′ ≡ isHeld a′
           → whole ≡ chain text f g b c item n o′ a′ (to + 1) → (to < length text) × Stands whole w₀ (to + 1) v second′ first′
       stands-more o′ a′ second′ first′ v h p q r k =
-          let d = fuel-down h in (
+          let d = fuel-down text n to h fuel in (
             h,
             record {
               o = o′;

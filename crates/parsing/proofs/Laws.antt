@@ -8,29 +8,20 @@ use native.Mathlib.Omega.{arith}
 use lib.ListN.{length, getD}
 use lib.Dec.{eqb, ltb, leb}
 use borrow.Author.Tests.{eq-eqb, ne-eqb, lt-ltb, le-ltb, ltb-true, leb-true, eqb-true}
+use Rattle.aldlf.proofs.Bools.{and-left, and-right}
 use Rattle.text.specs.Text.{isDigit}
 use Rattle.aldlf.specs.Sheet.{ahead, back, stay}
 use Rattle.formula.specs.Formula.{Formula, always, fact, Path, many}
 use Rattle.formula.specs.Parse.{Got, ok, bad, deep, Held, nothing, held, mapGot, byte, closed, trueAt, factAt, isPair, starredFrom, starred}
+use Rattle.formula.proofs.Bytes.{byte-there}
 use Rattle.formula.specs.Code.{codeTrue, codeMany, codeStep, codeSome, codeEvery}
 use Rattle.parsing.specs.Work.{Work, put, putIf, stepped}
 use Rattle.parsing.specs.Build.{build, buildIn, Seen, gotOf, Next, goes, stops, followed, endOf, factBy, simpleAt, steppedBy, starsBy, starsOn}
 
-pub byte-in : (text : List ℕ) (at : ℕ) → at < length text → byte text at ≡ getD text at 0
-unfolding byte
-byte-in text at h = rw (lt-ltb at (length text) h)
-
-pub byte-out : (text : List ℕ) (at : ℕ) → length text ≤ at → byte text at ≡ 256
-unfolding byte
-byte-out text at h = rw (le-ltb at (length text) h)
-
-pub byte-there : (text : List ℕ) (at b : ℕ) → byte text at ≡ b → b < 256 → at < length text
-unfolding byte
-byte-there text at b e l = go (ltb at (length text)) refl e
-  where
-    go : (t : Bool) → ltb at (length text) ≡ t → cond t (getD text at 0) 256 ≡ b → at < length text
-    go true q e = ltb-true at (length text) q
-    go false q e = absurd (omega arith)
+-- a place within the text leaves something to read
+pub fuel-down : (text : List ℕ) (n at : ℕ) → at < length text → length text ≤ at + n → (m : ℕ) × (n ≡ suc m)
+fuel-down text zero at h l = absurd (omega arith)
+fuel-down text (suc m) at h l = (m, refl)
 
 -- what an answer stands for, by its code
 pub got-ok : (p : Seen) → p .number ≡ 0 → gotOf p ≡ ok (p .work) (p .at)
@@ -209,14 +200,6 @@ yes-is {r} e h = sym e ∙ borrow.Author.Tests.not-false r h
 
 pub no-is : {r b : Bool} → r ≡ b → not r ≡ true → b ≡ false
 no-is {r} e h = sym e ∙ borrow.Author.Tests.not-true r h
-
-and-left : (a b : Bool) → a && b ≡ true → a ≡ true
-and-left true b e = refl
-and-left false b e = e
-
-and-right : (a b : Bool) → a && b ≡ true → b ≡ true
-and-right true b e = e
-and-right false b e = absurd (let z : _≡_ {A = ℕ} 0 1 = cc in omega arith)
 
 or-is : (a b : Bool) → a || b ≡ true → (a ≡ true) ⊎ (b ≡ true)
 or-is true b e = inl refl

@@ -10,6 +10,7 @@ use Rattle.formula.specs.Formula.{Formula, neg, some, every}
 use Rattle.formula.specs.Parse.{Got, ok, bad, deep, Inner, Prefix, bang, angle, square, wrap, mapGot, isPrefix, prefixed, byte, atomAt, prefixAt, operandFrom}
 use Rattle.parsing.specs.Work.{Work, applied}
 use Rattle.parsing.specs.Build.{build, Seen, gotOf, opened}
+use Rattle.parsing.proofs.Laws.{fuel-down}
 use Rattle.parsing.proofs.Chain.{Read, is, read-ok, read-fail}
 
 -- the prefixes that were read, the last one first, on a work
@@ -68,10 +69,6 @@ module _ (text : List ℕ) (I : Inner) where
       (λ to k. i .rest ∙ from-prefix (i .n) (i .ps) at e ∙ ap (λ (z : Got Prefix). prefixed (operandFrom text I (i .n)) (i .ps) z) k)
       (λ to k. i .rest ∙ from-prefix (i .n) (i .ps) at e ∙ ap (λ (z : Got Prefix). prefixed (operandFrom text I (i .n)) (i .ps) z) k)
 
-  fuel-down : (n at : ℕ) → at < length text → length text ≤ at + n → (m : ℕ) × (n ≡ suc m)
-  fuel-down zero at h l = absurd (omega arith)
-  fuel-down (suc m) at h l = (m, refl)
-
   pub waits-more : {whole : Got Formula} {w₀ : Work} {at count : ℕ} {w : Work} → Waits whole w₀ at count w → isPrefix (byte text at) ≡ true → at < length text → (p : Seen)
       → gotOf p ≡ mapGot (λ (x : Prefix). opened x w) (prefixAt text I at) → p .number ≡ 0 → at < p .at → Waits whole w₀ (p .at) (count + 1) (p .work)
   unfolding begun
@@ -79,7 +76,7 @@ module _ (text : List ℕ) (I : Inner) where
     where
       go : (g : Got Prefix) → Read (λ (x : Prefix). opened x w) p g → whole ≡ prefixed (operandFrom text I (i .n)) (i .ps) g → Waits whole w₀ (p .at) (count + 1) (p .work)
       go g (is {x} r) q =
-          let d = fuel-down (i .n) at l (i .fuel) in
+          let d = fuel-down text (i .n) at l (i .fuel) in
           record {
             ps = x ∷ i .ps;
             n = d .0;

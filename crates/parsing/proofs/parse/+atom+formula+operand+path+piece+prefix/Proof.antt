@@ -9,7 +9,8 @@ use Rattle.formula.specs.Formula.{Formula, Path}
 use Rattle.formula.specs.Parse.{Inner, mapGot, isPrefix, operandAt, inner}
 use Rattle.parsing.specs.Work.{workOf}
 use Rattle.parsing.specs.Build.{build, buildIn, seenOf, endOf}
-use Rattle.parsing.proofs.Laws.{byte-there, yes-is, no-is}
+use Rattle.formula.proofs.Bytes.{byte-there}
+use Rattle.parsing.proofs.Laws.{yes-is, no-is}
 use Rattle.parsing.proofs.Chain.{inner-none, atom-bracket, atom-simple, piece-bracket, piece-none, piece-step, prefix-bang, prefix-path}
 use Rattle.parsing.proofs.Ahead.{prefix-stands}
 use Rattle.parsing.proofs.Wrap.{Waits, waits-start, waits-end, waits-fail}

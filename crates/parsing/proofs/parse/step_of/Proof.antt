@@ -3,7 +3,8 @@ use mathlib.Core.Path.{sym, _∙_}
 use native.Mathlib.Omega.{arith}
 use borrow.Author.Needs.{needs}
 use Rattle.parsing.specs.Build.{seenOf}
-use Rattle.parsing.proofs.Laws.{byte-there, step-off, step-back, step-stay, step-ahead}
+use Rattle.formula.proofs.Bytes.{byte-there}
+use Rattle.parsing.proofs.Laws.{step-off, step-back, step-stay, step-ahead}
 use Rattle.parsing.proofs.parse.step_of.Statement.{statement}
 use Rattle.parsing.proofs.parse.step_of.Tie as tie
 

@@ -2,7 +2,7 @@
 use mathlib.Core.Path.{sym, _∙_}
 use native.Mathlib.Omega.{arith}
 use borrow.Author.Needs.{needs}
-use Rattle.parsing.proofs.Laws.{byte-in, byte-out}
+use Rattle.formula.proofs.Bytes.{byte-in, byte-out}
 use Rattle.parsing.proofs.signs.byte_at.Statement.{statement}
 use Rattle.parsing.proofs.signs.byte_at.Tie as tie
 

@@ -3,7 +3,8 @@ use mathlib.Core.Path.{sym, _∙_}
 use native.Mathlib.Omega.{arith}
 use borrow.Author.Needs.{needs}
 use Rattle.parsing.specs.Build.{seenOf}
-use Rattle.parsing.proofs.Laws.{byte-there, close-off, close-yes, close-no}
+use Rattle.formula.proofs.Bytes.{byte-there}
+use Rattle.parsing.proofs.Laws.{close-off, close-yes, close-no}
 use Rattle.parsing.proofs.signs.close.Statement.{statement}
 use Rattle.parsing.proofs.signs.close.Tie as tie
 

@@ -7,7 +7,8 @@ use Rattle.text.specs.Text.{isDigit}
 use Rattle.formula.specs.Parse.{byte, isPair}
 use Rattle.parsing.specs.Work.{workOf}
 use Rattle.parsing.specs.Build.{factBy}
-use Rattle.parsing.proofs.Laws.{byte-there, no-is, yes-is, digit-range, pair-range, fact-1, fact-2, fact-3}
+use Rattle.formula.proofs.Bytes.{byte-there}
+use Rattle.parsing.proofs.Laws.{no-is, yes-is, digit-range, pair-range, fact-1, fact-2, fact-3}
 use Rattle.parsing.proofs.signs.fact.Statement.{statement}
 use Rattle.parsing.proofs.signs.fact.Tie as tie
 

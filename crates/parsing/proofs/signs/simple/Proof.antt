@@ -3,7 +3,8 @@ use mathlib.Core.Path.{sym, _∙_}
 use native.Mathlib.Omega.{arith}
 use borrow.Author.Needs.{needs}
 use Rattle.parsing.specs.Work.{workOf}
-use Rattle.parsing.proofs.Laws.{byte-there, simple-true, simple-fact, simple-none}
+use Rattle.formula.proofs.Bytes.{byte-there}
+use Rattle.parsing.proofs.Laws.{simple-true, simple-fact, simple-none}
 use Rattle.parsing.proofs.signs.simple.Statement.{statement}
 use Rattle.parsing.proofs.signs.simple.Tie as tie
 

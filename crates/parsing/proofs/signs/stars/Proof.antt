@@ -6,7 +6,8 @@ use borrow.Author.Needs.{needs}
 use lib.ListN.{length}
 use Rattle.parsing.specs.Work.{workOf}
 use Rattle.parsing.specs.Build.{seenOf, starsBy}
-use Rattle.parsing.proofs.Laws.{byte-there, stars-off, stars-start, stars-stop, stars-more}
+use Rattle.formula.proofs.Bytes.{byte-there}
+use Rattle.parsing.proofs.Laws.{stars-off, stars-start, stars-stop, stars-more}
 use Rattle.parsing.proofs.signs.stars.Statement.{statement}
 use Rattle.parsing.proofs.signs.stars.Tie as tie
 
