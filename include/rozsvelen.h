@@ -42,6 +42,9 @@ static inline uint32_t rozsvelen_number(uint64_t answer) { return (uint32_t)(ans
 static inline uint32_t rozsvelen_line(uint64_t answer) { return (uint32_t)(answer >> 32 & 0xffff); }
 static inline uint32_t rozsvelen_extra(uint64_t answer) { return (uint32_t)(answer >> 48); }
 
+/* The field that an answer of rozsvelen_read_sheet is about: what it gives besides. */
+static inline uint32_t rozsvelen_field(uint64_t answer) { return rozsvelen_extra(answer); }
+
 /* The log that an answer of rozsvelen_judge_logs is about, in place of line and extra: it can be 65,536, which 16 bits do not hold. */
 static inline uint32_t rozsvelen_log(uint64_t answer) { return (uint32_t)(answer >> 32); }
 
@@ -55,7 +58,9 @@ static inline int rozsvelen_verdict(const uint64_t *verdicts, size_t entry, uint
     return (int)(verdicts[ROZSVELEN_WORDS * entry + node / 64] >> node % 64 & 1);
 }
 
-/* Reads a rule sheet's text into a table of ROZSVELEN_TABLE numbers. Questions 35, then 1 to 11. Stack: 16 KB. */
+/* Reads a rule sheet's text into a table of ROZSVELEN_TABLE numbers. Questions 35, then 1 to 6, 71 to 76, 8 to 11. 71 to 76 ask whether a
+ * line's numbers are in range, from the left: of a fact 71, a node 72, an automaton 73, a state 74, a direction 75, a count of states 76.
+ * rozsvelen_field of these is the field of the number that is not, the letter being field 1; of all else it is 0. Stack: 16 KB. */
 uint64_t rozsvelen_read_sheet(const uint8_t *text, size_t text_len, uint16_t *table, size_t table_len);
 
 /* Reads a rule that is one line of text, a formula, into the table of its sheet, of ROZSVELEN_TABLE numbers; no LF stands behind it. Questions 35;

@@ -32,6 +32,11 @@ static void refused(uint64_t answer) {
     printf("refused,%u,%u\n", rozsvelen_number(answer), rozsvelen_line(answer));
 }
 
+/* A sheet's refusal tells the field too. */
+static void refused_sheet(uint64_t answer) {
+    printf("refused,%u,%u,%u\n", rozsvelen_number(answer), rozsvelen_line(answer), rozsvelen_field(answer));
+}
+
 /* The line of the rule's walk at entry 0. */
 static void print_walk(const uint16_t *table, const uint32_t *words, uint32_t entries, uint32_t rule) {
     static uint16_t edges[ROZSVELEN_WALK];
@@ -51,7 +56,7 @@ static void print_page(const uint8_t *rules, size_t rules_len, const uint8_t *st
     static uint64_t verdicts[ROZSVELEN_WORDS * ROZSVELEN_ENTRIES];
     uint64_t sheet = rozsvelen_read_sheet(rules, rules_len, table, ROZSVELEN_TABLE);
     if (rozsvelen_number(sheet) != 0) {
-        refused(sheet);
+        refused_sheet(sheet);
         return;
     }
     uint64_t log = rozsvelen_read_log(steps, steps_len, words, ROZSVELEN_ENTRIES);

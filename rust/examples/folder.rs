@@ -1,6 +1,6 @@
 //! Judges every log of a folder by the folder's `rules.txt`, all of them in one call, and prints a line for each in the order of their names:
 //! the rule's verdict at entry 0, at how many entries it holds and how many there are, or by which question the log's text is refused.
-//! A sheet that is refused gives one line, `refused,number,line`.
+//! A sheet that is refused gives one line, `refused,number,line,field`, as on the page.
 //! A log that cannot be read to its end is said on standard error; the others are judged all the same, and the program ends with status 1.
 //!
 //!     cargo run --example folder -- ../examples/night-batch
@@ -81,7 +81,7 @@ fn main() -> Result<ExitCode, Box<dyn Error>> {
     let (texts, all_read) = texts(&folder)?;
     let mut out = io::BufWriter::new(io::stdout());
     match Sheet::read(&rules) {
-        Err(no) => writeln!(out, "refused,{},{}", no.number, no.line)?,
+        Err(no) => writeln!(out, "refused,{},{},{}", no.number, no.line, no.field)?,
         Ok(sheet) => print(&sheet, &texts, &mut out)?,
     }
     out.flush()?;

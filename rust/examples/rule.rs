@@ -1,4 +1,4 @@
-//! Prints the rule of a sheet as one line of text; of a sheet that is refused `refused,number,line`, as the page does.
+//! Prints the rule of a sheet as one line of text; of a sheet that is refused `refused,number,line,field`, as the page does.
 //! A rule's text can be far longer than its sheet, so the buffer grows, up to 16 MB. A text that is longer is said on standard error, and the program
 //! ends with status 1.
 //!
@@ -42,7 +42,7 @@ fn text(sheet: &Sheet) -> Result<Vec<u8>, Box<dyn Error>> {
 fn main() -> Result<(), Box<dyn Error>> {
     let path = std::env::args_os().nth(1).map(PathBuf::from).ok_or("usage: rule RULES")?;
     let mut line = match Sheet::read(&rules(&path)?) {
-        Err(no) => format!("refused,{},{}", no.number, no.line).into_bytes(),
+        Err(no) => format!("refused,{},{},{}", no.number, no.line, no.field).into_bytes(),
         Ok(sheet) => text(&sheet)?,
     };
     line.push(b'\n');

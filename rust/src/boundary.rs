@@ -7,18 +7,23 @@ fn answer(code: u64) -> Result<usize, Refused> {
     answer_about(code, (code >> 32 & 0xffff) as u32)
 }
 
-/// An answer's number, whose refusal is about the given line or log.
+/// An answer's number, whose refusal is about the given line or log, and about no field.
 fn answer_about(code: u64, line: u32) -> Result<usize, Refused> {
     let number = (code >> 16 & 0xffff) as u8;
     if number == 0 {
         Ok((code & 0xffff) as usize)
     } else {
-        Err(Refused { number, line })
+        Err(Refused { number, line, field: 0 })
     }
 }
 
+/// An answer's number, whose refusal gives a field in the upper 16 bits.
+fn answer_with_field(code: u64) -> Result<usize, Refused> {
+    answer(code).map_err(|no| Refused { field: (code >> 48) as u8, ..no })
+}
+
 pub fn read_sheet(text: &[u8], table: &mut [u16; TABLE]) -> Result<usize, Refused> {
-    answer(unsafe { rozsvelen_read_sheet(text.as_ptr(), text.len(), table.as_mut_ptr(), table.len()) })
+    answer_with_field(unsafe { rozsvelen_read_sheet(text.as_ptr(), text.len(), table.as_mut_ptr(), table.len()) })
 }
 
 /// An answer's number, whose refusal gives a place in the upper 16 bits.

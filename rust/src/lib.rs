@@ -42,20 +42,48 @@ pub const WALK: usize = 8191;
 pub const PAGE: usize = 40_000;
 
 /// A refusal: the number of the first question that got a no, and the line it is about (from 1; 0 for questions not about a line). Where many
-/// logs are judged in one call (`judge_logs`), the number of the log stands in the line's place.
+/// logs are judged in one call (`judge_logs`), the number of the log stands in the line's place. A sheet's refusal by 71 to 76, of a number that is
+/// not in range, also tells the field that has it, the letter being field 1; of every other refusal the field is 0.
+///
+/// ```
+/// use rozsvelen::Refused;
+/// let said = |number, line, field| Refused { number, line, field }.to_string();
+/// assert_eq!(said(71, 1, 2), "refused by question 71 at line 1, field 2: no fact from 0 to 31");
+/// assert_eq!(said(72, 2, 3), "refused by question 72 at line 2, field 3: no node of an earlier line");
+/// assert_eq!(said(73, 2, 2), "refused by question 73 at line 2, field 2: no automaton of an earlier line");
+/// assert_eq!(said(74, 3, 5), "refused by question 74 at line 3, field 5: no state below the automaton's count of states");
+/// assert_eq!(said(75, 3, 3), "refused by question 75 at line 3, field 3: no direction from 0 to 2");
+/// assert_eq!(said(76, 1, 2), "refused by question 76 at line 1, field 2: no count of states from 1 to 16");
+/// assert_eq!(said(3, 2, 0), "refused by question 3 at line 2");
+/// assert_eq!(said(2, 0, 0), "refused by question 2");
+/// ```
 #[derive(Clone, Copy, Debug, PartialEq, Eq)]
 pub struct Refused {
     /// The question's number.
     pub number: u8,
     /// The line, or 0.
     pub line: u32,
+    /// The field of 71 to 76, else 0.
+    pub field: u8,
 }
 
 impl fmt::Display for Refused {
     fn fmt(&self, f: &mut fmt::Formatter<'_>) -> fmt::Result {
-        match self.line {
-            0 => write!(f, "refused by question {}", self.number),
-            line => write!(f, "refused by question {} at line {}", self.number, line),
+        write!(f, "refused by question {}", self.number)?;
+        if self.line > 0 {
+            write!(f, " at line {}", self.line)?;
+        }
+        if self.field > 0 {
+            write!(f, ", field {}", self.field)?;
+        }
+        match self.number {
+            71 => write!(f, ": no fact from 0 to 31"),
+            72 => write!(f, ": no node of an earlier line"),
+            73 => write!(f, ": no automaton of an earlier line"),
+            74 => write!(f, ": no state below the automaton's count of states"),
+            75 => write!(f, ": no direction from 0 to 2"),
+            76 => write!(f, ": no count of states from 1 to 16"),
+            _ => Ok(()),
         }
     }
 }
@@ -139,12 +167,15 @@ impl fmt::Debug for Sheet {
 }
 
 impl Sheet {
-    /// Reads a sheet's text: its table, or the first question that gets a no and its line.
+    /// Reads a sheet's text: its table, or the first question that gets a no, its line, and the field where a number is not in range.
     ///
     /// ```
     /// use rozsvelen::{Refused, Sheet};
     /// assert!(Sheet::read(b"T\nP,31\n").is_ok());
-    /// assert_eq!(Sheet::read(b"T\nP,32\n"), Err(Refused { number: 7, line: 2 }));
+    /// // no fact has number 32; no node of an earlier line has number 1; a number has no x
+    /// assert_eq!(Sheet::read(b"T\nP,32\n"), Err(Refused { number: 71, line: 2, field: 2 }));
+    /// assert_eq!(Sheet::read(b"T\nA,0,1\n"), Err(Refused { number: 72, line: 2, field: 3 }));
+    /// assert_eq!(Sheet::read(b"T\nP,x\n"), Err(Refused { number: 4, line: 2, field: 0 }));
     /// ```
     pub fn read(text: &[u8]) -> Result<Sheet, Refused> {
         let mut table = [0; TABLE];
@@ -183,7 +214,7 @@ impl Sheet {
     /// ```
     /// use rozsvelen::{judge, Refused, Sheet, TABLE};
     /// let sheet = Sheet::from_numbers([0; TABLE]);
-    /// assert_eq!(judge(&sheet, &[0], &mut [0]), Err(Refused { number: 31, line: 0 }));
+    /// assert_eq!(judge(&sheet, &[0], &mut [0]), Err(Refused { number: 31, line: 0, field: 0 }));
     /// ```
     pub fn from_numbers(table: [u16; TABLE]) -> Sheet {
         Sheet { table }
@@ -204,7 +235,7 @@ impl Sheet {
     /// let plain = Sheet::read(b"T\nF\nP,1\nN,2\nM,1,0\nG,0\nE,0,1,0,0\nD,0,2\nB,0,3\nB,0,3\nD,0,2\nB,0,3\n").unwrap();
     /// assert_eq!(sheet.profile(), Ok(plain));
     /// let large = Sheet::read(&b"T\n".repeat(64)).unwrap();
-    /// assert_eq!(large.profile(), Err(Refused { number: 42, line: 0 }));
+    /// assert_eq!(large.profile(), Err(Refused { number: 42, line: 0, field: 0 }));
     /// ```
     pub fn profile(&self) -> Result<Sheet, Refused> {
         let table = boundary::profile(&self.table)?;
@@ -251,7 +282,7 @@ impl Log {
     /// ```
     /// use rozsvelen::{Log, Refused};
     /// assert_eq!(Log::read(b"0,2\n-\n").unwrap().words(), [5, 0]);
-    /// assert_eq!(Log::read(b"-\n1,1\n"), Err(Refused { number: 26, line: 2 }));
+    /// assert_eq!(Log::read(b"-\n1,1\n"), Err(Refused { number: 26, line: 2, field: 0 }));
     /// ```
     pub fn read(text: &[u8]) -> Result<Log, Refused> {
         let mut words = vec![0; ENTRIES];
@@ -268,7 +299,7 @@ impl Log {
     /// let (log, first) = Log::read_counted(b"65535,0,2\n0,-\n").unwrap();
     /// assert_eq!(log.words(), [5, 0]);
     /// assert_eq!(first, 65535);
-    /// assert_eq!(Log::read_counted(b"7,-\n9,-\n"), Err(Refused { number: 29, line: 2 }));
+    /// assert_eq!(Log::read_counted(b"7,-\n9,-\n"), Err(Refused { number: 29, line: 2, field: 0 }));
     /// ```
     pub fn read_counted(text: &[u8]) -> Result<(Log, u16), Refused> {
         let mut words = vec![0; ENTRIES];
@@ -325,8 +356,8 @@ pub fn steps_between(earlier: u16, later: u16) -> u16 {
 /// use rozsvelen::{entry_bearing, Refused};
 /// assert_eq!(entry_bearing(65534, 3, 65535), Ok(1));
 /// assert_eq!(entry_bearing(65534, 3, 0), Ok(2));
-/// assert_eq!(entry_bearing(65534, 3, 1), Err(Refused { number: 30, line: 0 }));
-/// assert_eq!(entry_bearing(65534, 513, 1), Err(Refused { number: 32, line: 0 }));
+/// assert_eq!(entry_bearing(65534, 3, 1), Err(Refused { number: 30, line: 0, field: 0 }));
+/// assert_eq!(entry_bearing(65534, 513, 1), Err(Refused { number: 32, line: 0, field: 0 }));
 /// ```
 pub fn entry_bearing(first: u16, entries: usize, counter: u16) -> Result<usize, Refused> {
     boundary::entry_bearing(first, entries, counter)
@@ -380,8 +411,8 @@ pub fn holds(verdicts: &[u64], entry: usize, node: usize) -> bool {
 /// assert_eq!(judge(&sheet, &[0, 0, 0], &mut verdicts), Ok(2));
 /// assert_eq!([0, 1, 2].map(|entry| holds(&verdicts, entry, 1)), [true, true, false]);
 /// assert_eq!(verdicts, [0b11, 0, 0b11, 0, 0b01, 0, 9]);
-/// assert_eq!(judge(&sheet, &[], &mut verdicts), Err(Refused { number: 32, line: 0 }));
-/// assert_eq!(judge(&sheet, &[0, 0, 0], &mut verdicts[..5]), Err(Refused { number: 33, line: 0 }));
+/// assert_eq!(judge(&sheet, &[], &mut verdicts), Err(Refused { number: 32, line: 0, field: 0 }));
+/// assert_eq!(judge(&sheet, &[0, 0, 0], &mut verdicts[..5]), Err(Refused { number: 33, line: 0, field: 0 }));
 /// ```
 pub fn judge(sheet: &Sheet, log: &[u32], verdicts: &mut [u64]) -> Result<usize, Refused> {
     boundary::judge(&sheet.table, log, verdicts)
@@ -405,9 +436,9 @@ pub fn judge(sheet: &Sheet, log: &[u32], verdicts: &mut [u64]) -> Result<usize, 
 /// assert_eq!(held, [2, 0, 9]);
 /// let second = &verdicts[3 * WORDS..];
 /// assert!(holds(&verdicts, 0, 1) && !holds(second, 0, 1));
-/// assert_eq!(judge_logs(&sheet, &[0; 4], &[3, 1], &mut verdicts[..7], &mut held), Err(Refused { number: 33, line: 2 }));
-/// assert_eq!(judge_logs(&sheet, &[0; 4], &[3, 2], &mut verdicts, &mut held), Err(Refused { number: 32, line: 2 }));
-/// assert_eq!(judge_logs(&sheet, &[0; 4], &[3], &mut verdicts, &mut held), Err(Refused { number: 32, line: 2 }));
+/// assert_eq!(judge_logs(&sheet, &[0; 4], &[3, 1], &mut verdicts[..7], &mut held), Err(Refused { number: 33, line: 2, field: 0 }));
+/// assert_eq!(judge_logs(&sheet, &[0; 4], &[3, 2], &mut verdicts, &mut held), Err(Refused { number: 32, line: 2, field: 0 }));
+/// assert_eq!(judge_logs(&sheet, &[0; 4], &[3], &mut verdicts, &mut held), Err(Refused { number: 32, line: 2, field: 0 }));
 /// assert_eq!(judge_logs(&sheet, &[], &[], &mut [], &mut []), Ok(()));
 /// ```
 pub fn judge_logs(sheet: &Sheet, words: &[u32], lengths: &[u16], verdicts: &mut [u64], held: &mut [u16]) -> Result<(), Refused> {
@@ -454,8 +485,8 @@ pub fn judge_part(sheet: &Sheet, way: Way, row: &[u16; ROW], words: &[u32], verd
 /// let mut edges = [9; 3];
 /// assert_eq!(walk(&sheet, &[0, 0, 2], 2, 0, &mut edges), Ok(2));
 /// assert_eq!(edges, [0, 0, 9]);
-/// assert_eq!(walk(&sheet, &[0, 0, 2], 1, 0, &mut edges), Err(Refused { number: 38, line: 0 }));
-/// assert_eq!(walk(&sheet, &[0, 0, 2], 256 + 2, 0, &mut edges), Err(Refused { number: 36, line: 0 }));
+/// assert_eq!(walk(&sheet, &[0, 0, 2], 1, 0, &mut edges), Err(Refused { number: 38, line: 0, field: 0 }));
+/// assert_eq!(walk(&sheet, &[0, 0, 2], 256 + 2, 0, &mut edges), Err(Refused { number: 36, line: 0, field: 0 }));
 /// ```
 pub fn walk(sheet: &Sheet, log: &[u32], node: u32, entry: u32, edges: &mut [u16]) -> Result<usize, Refused> {
     boundary::walk(&sheet.table, log, node, entry, edges)
@@ -473,7 +504,7 @@ pub fn walk(sheet: &Sheet, log: &[u32], node: u32, entry: u32, edges: &mut [u16]
 /// let mut text = [b'#'; 24];
 /// assert_eq!(print_rule(&sheet, &mut text), Ok(22));
 /// assert_eq!(&text, b"([m1]((!f2)|(<m0>f1)))##");
-/// assert_eq!(print_rule(&sheet, &mut text[..21]), Err(Refused { number: 55, line: 0 }));
+/// assert_eq!(print_rule(&sheet, &mut text[..21]), Err(Refused { number: 55, line: 0, field: 0 }));
 /// ```
 pub fn print_rule(sheet: &Sheet, text: &mut [u8]) -> Result<usize, Refused> {
     boundary::print_rule(&sheet.table, text)
@@ -484,7 +515,9 @@ pub fn print_rule(sheet: &Sheet, text: &mut [u8]) -> Result<usize, Refused> {
 /// ```
 /// let page = rozsvelen::page(b"T\nM,2,0\nG,1\nE,0,1,0,1\nD,0,0\n", b"-\n-\n-\n");
 /// assert_eq!(page, b"0,1\n1,1\n2,0\nrule,1,held,2,of,3\nwalk,1,0\n");
-/// assert_eq!(rozsvelen::page(b"", b"-\n"), b"refused,2,0\n");
+/// assert_eq!(rozsvelen::page(b"", b"-\n"), b"refused,2,0,0\n");
+/// assert_eq!(rozsvelen::page(b"T\nA,0,1\n", b"-\n"), b"refused,72,2,3\n");
+/// assert_eq!(rozsvelen::page(b"T\n", b"-\n32\n"), b"refused,25,2\n");
 /// ```
 pub fn page(rules: &[u8], steps: &[u8]) -> Vec<u8> {
     let mut page = vec![0; PAGE];
@@ -498,10 +531,10 @@ pub fn page(rules: &[u8], steps: &[u8]) -> Vec<u8> {
 ///
 /// ```
 /// use rozsvelen::{page_in, Refused};
-/// let mut bytes = [b'#'; 14];
-/// assert_eq!(page_in(b"", b"", &mut bytes), Ok(12));
-/// assert_eq!(&bytes, b"refused,2,0\n##");
-/// assert_eq!(page_in(b"", b"", &mut bytes[..11]), Err(Refused { number: 44, line: 0 }));
+/// let mut bytes = [b'#'; 16];
+/// assert_eq!(page_in(b"", b"", &mut bytes), Ok(14));
+/// assert_eq!(&bytes, b"refused,2,0,0\n##");
+/// assert_eq!(page_in(b"", b"", &mut bytes[..13]), Err(Refused { number: 44, line: 0, field: 0 }));
 /// ```
 pub fn page_in(rules: &[u8], steps: &[u8], page: &mut [u8]) -> Result<usize, Refused> {
     boundary::page(rules, steps, page)
