@@ -5,6 +5,8 @@ use rozsvelen::{holds, Sheet, ENTRIES, NODES, PAGE, ROW, TABLE, WORDS};
 #[path = "../src/calls.rs"]
 #[allow(dead_code)]
 mod calls;
+#[path = "boundary/fields.rs"]
+mod fields;
 #[path = "boundary/formulas.rs"]
 mod formulas;
 #[path = "boundary/nodes.rs"]
@@ -21,6 +23,11 @@ const W: &[u8] = b"T\nP,1\nM,1,0\nG,0\nE,0,1,0,0\nD,0,1\n";
 /// An answer without a count: the question's number and line, or the log of a list.
 fn refusal(number: u64, line: u64) -> u64 {
     65536 * number + (line << 32)
+}
+
+/// The same of a sheet, and the field.
+fn refusal_in(number: u64, line: u64, field: u64) -> u64 {
+    refusal(number, line) + (field << 48)
 }
 
 /// The words of a log by a sheet of at most 64 nodes: behind each entry's first word stands a 0.
@@ -151,7 +158,7 @@ fn zeros_before_the_numbers_of_a_sheet_change_nothing() {
     assert_eq!(read_sheet(b"T\nP,001\nM,01,00\nG,000\nE,00,001,000,00\nD,00,01\n", &mut padded), 0);
     assert_eq!(padded, table());
     assert_eq!(read_sheet(b"T\nP,0007\n", &mut padded), refusal(4, 2), "four digits are no number");
-    assert_eq!(read_sheet(b"T\nP,032\n", &mut padded), refusal(7, 2), "a padded number is held to its range");
+    assert_eq!(read_sheet(b"T\nP,032\n", &mut padded), refusal_in(71, 2, 2), "a padded number is held to its range");
     assert_eq!(padded, table());
 }
 

@@ -297,7 +297,7 @@ fn counter(random: &mut Random, n: usize) -> String {
     format!("{n:0digits$}")
 }
 
-/// A text with a few bytes or lines changed, or cut short; one in four is left as it is.
+/// A text with a few bytes, numbers or lines changed, or cut short; one in four is left as it is.
 pub fn perhaps_damaged(random: &mut Random, text: String) -> Vec<u8> {
     let mut bytes = text.into_bytes();
     if !random.one_in(4) {
@@ -310,13 +310,14 @@ pub fn perhaps_damaged(random: &mut Random, text: String) -> Vec<u8> {
 
 fn damaged(random: &mut Random, mut bytes: Vec<u8>) -> Vec<u8> {
     let at = random.below(bytes.len().max(1));
-    match random.below(7) {
+    match random.below(9) {
         0..=2 => return other_lines(random, &bytes),
-        3 if !bytes.is_empty() => bytes[at] = byte(random),
-        4 if !bytes.is_empty() => {
+        3 | 4 => return other_number(random, &bytes),
+        5 if !bytes.is_empty() => bytes[at] = byte(random),
+        6 if !bytes.is_empty() => {
             bytes.remove(at);
         }
-        5 => bytes.insert(at, byte(random)),
+        7 => bytes.insert(at, byte(random)),
         _ => bytes.truncate(if random.one_in(2) { at } else { bytes.len().saturating_sub(1) }),
     }
     bytes
@@ -329,6 +330,20 @@ fn byte(random: &mut Random) -> u8 {
     } else {
         *random.pick(b"0123456789,\n-TFPNAODBMGE \r\0")
     }
+}
+
+/// One of the numbers becomes another, mostly about as large as some number may be.
+fn other_number(random: &mut Random, bytes: &[u8]) -> Vec<u8> {
+    let mut fields: Vec<&[u8]> = bytes.split_inclusive(|b| b",\n".contains(b)).collect();
+    let numbers: Vec<usize> = (0..fields.len()).filter(|i| fields[*i][0].is_ascii_digit()).collect();
+    if numbers.is_empty() {
+        return bytes.to_vec();
+    }
+    let (i, below) = (*random.pick(&numbers), *random.pick(&[4, 18, 34, NODES + 2, 1000]));
+    let end = fields[i].iter().position(|b| b",\n".contains(b)).unwrap_or(fields[i].len());
+    let other = [random.below(below).to_string().as_bytes(), &fields[i][end..]].concat();
+    fields[i] = &other;
+    fields.concat()
 }
 
 /// A line twice, a line less, or two lines exchanged.

@@ -4,7 +4,7 @@ use std::fmt;
 
 /// Every call and the numbers by which it refuses; for the page, the numbers that stand on it.
 const REFUSALS: [(&str, &[u8]); 16] = [
-    ("read_sheet", &[1, 2, 3, 4, 5, 6, 7, 8, 9, 10, 11]),
+    ("read_sheet", &[1, 2, 3, 4, 5, 6, 71, 72, 73, 74, 75, 76, 8, 9, 10, 11]),
     ("from_formula", &[50, 51, 52, 54, 53]),
     ("profile", &[31, 42]),
     ("in_profile", &[31]),
@@ -18,11 +18,11 @@ const REFUSALS: [(&str, &[u8]); 16] = [
     ("judge_part", &[31, 34, 32, 33]),
     ("walk", &[31, 32, 36, 37, 38, 39, 40]),
     ("print_rule", &[31, 55]),
-    ("page", &[1, 2, 3, 4, 5, 6, 7, 8, 9, 10, 11, 21, 22, 23, 24, 25, 26]),
+    ("page", &[1, 2, 3, 4, 5, 6, 71, 72, 73, 74, 75, 76, 8, 9, 10, 11, 21, 22, 23, 24, 25, 26]),
     ("page_in", &[44]),
 ];
 
-const OTHERS: [&str; 204] = [
+const OTHERS: [&str; 210] = [
     "read_sheet: read",
     "read_sheet: cut short within a line",
     "read_sheet: a byte above 127",
@@ -30,6 +30,12 @@ const OTHERS: [&str; 204] = [
     "read_sheet: 4 of a padded number of four digits",
     "read_sheet: read with 128 nodes",
     "read_sheet: 5 of a node",
+    "read_sheet: 72 in field 2",
+    "read_sheet: 72 in field 3",
+    "read_sheet: 72 in field 4",
+    "read_sheet: 74 in field 2",
+    "read_sheet: 74 in field 3",
+    "read_sheet: 74 in field 5",
     "from_formula: read",
     "from_formula: rule holds",
     "from_formula: rule fails",

@@ -22,6 +22,7 @@ const MODAL_STEP: &str = "T\nM,1,0\nE,0,0,0,0\nD,0,0\nM,1,0\nE,0,1,1,0\nT\n";
 
 pub fn all(kinds: &mut Kinds) {
     texts(kinds);
+    numbers(kinds);
     formulas(kinds);
     short_formulas(kinds);
     profiles(kinds);
@@ -37,11 +38,11 @@ pub fn all(kinds: &mut Kinds) {
 fn texts(kinds: &mut Kinds) {
     for text in counted_texts() {
         compare_sheet(kinds, text.as_bytes());
-        compare_page(kinds, text.as_bytes(), b"-\n", 12);
+        compare_page(kinds, text.as_bytes(), b"-\n", 14);
     }
     for text in ["", "T\nG,0\n", "T\nM,1,0\nG,0\nG,0\n", "T\nM,1,0\nE,0,0,0,0\n", "M,1,0\nT\n", MODAL_STEP] {
         compare_sheet(kinds, text.as_bytes());
-        compare_page(kinds, text.as_bytes(), b"-\n", 12);
+        compare_page(kinds, text.as_bytes(), b"-\n", 14);
         for bytes in [49_152, 49_153, 49_154] {
             let mut long = text.to_string();
             while long.len() < bytes {
@@ -54,6 +55,21 @@ fn texts(kinds: &mut Kinds) {
         compare_log(kinds, "-\n".repeat(entries).as_bytes(), 600);
         compare_log(kinds, "0,31\n".repeat(entries).as_bytes(), 511);
         compare_page(kinds, b"P,31\n", "0,31\n".repeat(entries).as_bytes(), PAGE - 1);
+    }
+}
+
+/// Every letter with numbers at, beside and far behind the ends of ranges, together in every way: the leftmost that is wrong decides. Above stand
+/// nodes 0 and 1, the latter a D, and automata 0 and 1, of one state and of two.
+fn numbers(kinds: &mut Kinds) {
+    const ABOVE: &str = "T\nM,1,0\nE,0,0,0,0\nD,0,0\nM,2,1\nG,1\nE,0,0,0,1\n";
+    let some = [0, 1, 2, 3, 15, 16, 17, 31, 32, 255, 256, 257, 999];
+    for (letter, count) in [("P", 1), ("N", 1), ("G", 1), ("A", 2), ("O", 2), ("D", 2), ("B", 2), ("M", 2), ("E", 4)] {
+        for way in 0..some.len().pow(count) {
+            let line = (0..count).fold(letter.to_string(), |line, i| format!("{line},{}", some[way / some.len().pow(i) % some.len()]));
+            let text = format!("{ABOVE}{line}\nT\n");
+            compare_sheet(kinds, text.as_bytes());
+            compare_page(kinds, text.as_bytes(), b"-\n", 15);
+        }
     }
 }
 
@@ -208,12 +224,14 @@ fn counters(kinds: &mut Kinds) {
     }
 }
 
-/// As many nodes, automata, edges and states as there may be, and one more.
+/// As many nodes, automata, edges and states as there may be, and one more; 5 is asked before its numbers.
 fn counted_texts() -> Vec<String> {
     let mut all = [64, 65, NODES, NODES + 1].map(|nodes| "T\n".repeat(nodes)).to_vec();
-    all.push("T\n".repeat(NODES) + "M,1,0\n");
+    all.extend(["M,1,0\n", "P,32\n", "N,128\n"].map(|line| "T\n".repeat(NODES) + line));
     all.extend([16, 17].map(|automata| "T\n".to_string() + &"M,1,0\nE,0,0,0,0\n".repeat(automata) + "T\n"));
+    all.push("T\n".to_string() + &"M,1,0\nE,0,0,0,0\n".repeat(16) + "M,17,17\n");
     all.extend([256, 257].map(|edges| "T\nM,1,0\n".to_string() + &"E,0,0,0,0\n".repeat(edges) + "T\n"));
+    all.push("T\nM,1,0\n".to_string() + &"E,0,0,0,0\n".repeat(256) + "E,1,3,1,1\n");
     all.extend([16, 17].map(|states| {
         let edges: String = (0..states).map(|s| format!("E,{s},0,0,{s}\n")).collect();
         format!("T\nM,{states},0\n{edges}T\n")
@@ -225,8 +243,8 @@ fn compare_long(kinds: &mut Kinds, text: &[u8]) {
     compare_sheet(kinds, text);
     compare_log(kinds, text, 600);
     compare_counted(kinds, text, 600);
-    compare_page(kinds, text, b"-\n", 12);
-    compare_page(kinds, b"T\n", text, 12);
+    compare_page(kinds, text, b"-\n", 14);
+    compare_page(kinds, b"T\n", text, 14);
 }
 
 /// A walk through every state at every entry: ahead to the last entry in one state, back to the first in the next. Edges and nodes of high numbers:

@@ -1,5 +1,5 @@
 //! Sheets of up to 128 nodes: an entry's two words, and names, tests, rows and walks above node 63.
-use super::{judge, judge_logs, judge_part, plain_row, profile, read_sheet, refusal, row_of, table_of, walk};
+use super::{judge, judge_logs, judge_part, plain_row, profile, read_sheet, refusal, refusal_in, row_of, table_of, walk};
 use rozsvelen::{holds, ENTRIES, NODES, ROW, TABLE, WORDS};
 
 const ALL: u64 = u64::MAX;
@@ -62,7 +62,7 @@ fn the_129th_node_is_refused() {
     // an automaton may still come: its one state stands on no edge, or on one that tests a node; but it is no node
     assert_eq!(read_sheet(&behind(128, "T", "M,1,0\n"), &mut table), refusal(10, 129));
     assert_eq!(read_sheet(&behind(128, "T", "M,1,0\nE,0,1,127,0\n"), &mut table), refusal(11, 130));
-    assert_eq!(read_sheet(&behind(128, "T", "M,1,0\nE,0,1,128,0\n"), &mut table), refusal(7, 130));
+    assert_eq!(read_sheet(&behind(128, "T", "M,1,0\nE,0,1,128,0\n"), &mut table), refusal_in(72, 130, 4));
     assert_eq!(table, [7; TABLE]);
     assert_eq!(read_sheet(&behind(128, "T", ""), &mut table), 0);
 }

@@ -11,7 +11,7 @@ pub mod profile;
 pub mod sheets;
 pub mod stands;
 
-/// A refusal: number and line.
+/// A refusal of anything but a sheet: number and line.
 pub type No = (u8, u32);
 
 /// The number that a field is: one to three digits, zeros in front or not.

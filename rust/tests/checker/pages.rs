@@ -1,11 +1,12 @@
 //! The printed page.
 use super::meaning::{plain, Judged};
 use super::sheets::Line;
-use super::{logs, sheets, No};
+use super::{logs, sheets};
 
-pub fn page(rules: &[u8], steps: &[u8]) -> Result<String, No> {
-    let sheet = sheets::read(rules)?;
-    let words = logs::read(steps, 512)?;
+/// The page; of a sheet or a log that is refused, the refusal's number and its line.
+pub fn page(rules: &[u8], steps: &[u8]) -> Result<String, (u8, String)> {
+    let sheet = sheets::read(rules).map_err(|(number, line, field)| (number, format!("refused,{number},{line},{field}\n")))?;
+    let words = logs::read(steps, 512).map_err(|(number, line)| (number, format!("refused,{number},{line}\n")))?;
     let judged = Judged::new(&sheet, &words, plain(&sheet));
     let rule = sheet.nodes.len() - 1;
     let verdicts: Vec<u8> = judged.holds[rule].iter().map(|h| *h as u8).collect();

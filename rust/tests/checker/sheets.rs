@@ -1,5 +1,9 @@
-//! Questions 1 to 11, and question 31: a table is one that some sheet gives if its own lines, written out, read to it again.
-use super::{lines, number, No};
+//! Questions 1 to 6, 71 to 76 and 8 to 11; and question 31: a table is one that some sheet gives if its own lines, written out, read to it again.
+use super::{lines, number};
+use std::ops::Range;
+
+/// A refusal of a sheet: number, line, and for 71 to 76 the field, the letter being field 1; else 0.
+pub type No = (u8, u32, u8);
 
 /// As many nodes as a sheet may have.
 pub const NODES: usize = 128;
@@ -8,6 +12,33 @@ pub const AUTOMATA_AT: usize = 384;
 pub const EDGES_AT: usize = 480;
 pub const COUNTS_AT: usize = 1504;
 pub const TABLE: usize = 1507;
+
+/// What a number on a line is, and which question is about it.
+#[derive(Clone, Copy)]
+enum Kind {
+    Fact = 71,
+    Node = 72,
+    Automaton = 73,
+    State = 74,
+    Direction = 75,
+    States = 76,
+}
+
+/// What the numbers behind a letter of the table are, from the left.
+fn kinds(letter: &[u8]) -> Option<&'static [Kind]> {
+    use Kind::*;
+    Some(match letter {
+        b"T" | b"F" => &[],
+        b"P" => &[Fact],
+        b"N" => &[Node],
+        b"A" | b"O" => &[Node, Node],
+        b"D" | b"B" => &[Automaton, Node],
+        b"M" => &[States, State],
+        b"G" => &[State],
+        b"E" => &[State, Direction, Node, State],
+        _ => return None,
+    })
+}
 
 #[derive(Clone, Copy, Debug, PartialEq, Eq)]
 pub enum Line {
@@ -48,10 +79,10 @@ pub struct Sheet {
 
 pub fn read(text: &[u8]) -> Result<Sheet, No> {
     if text.len() > 49_152 {
-        return Err((1, 0));
+        return Err((1, 0, 0));
     }
     if text.last() != Some(&b'\n') {
-        return Err((2, 0));
+        return Err((2, 0, 0));
     }
     let mut sheet = Sheet::default();
     let mut previous = b' ';
@@ -59,36 +90,27 @@ pub fn read(text: &[u8]) -> Result<Sheet, No> {
     for line in lines(text) {
         place += 1;
         let fields: Vec<&[u8]> = line.split(|b| *b == b',').collect();
-        let letter = sheet.add(&fields, previous, place).map_err(|q| (q, place))?;
+        let letter = sheet.add(&fields, previous, place).map_err(|(q, field)| (q, place, field))?;
         previous = letter;
     }
     for m in &sheet.automata {
         let stands = |s: usize| m.edges.iter().any(|e| sheet.edges[*e].from == s || sheet.edges[*e].to == s);
         if !(0..m.states).all(stands) {
-            return Err((10, m.line));
+            return Err((10, m.line, 0));
         }
     }
     if b"MGE".contains(&previous) {
-        return Err((11, place));
+        return Err((11, place, 0));
     }
     Ok(sheet)
 }
 
 impl Sheet {
-    /// One line more; the number of the first question that gets a no.
-    fn add(&mut self, fields: &[&[u8]], previous: u8, place: u32) -> Result<u8, u8> {
-        let wanted = match fields[0] {
-            b"T" | b"F" => 1,
-            b"P" | b"N" | b"G" => 2,
-            b"A" | b"O" | b"D" | b"B" | b"M" => 3,
-            b"E" => 5,
-            _ => return Err(3),
-        };
-        if fields.len() != wanted {
-            return Err(3);
-        }
+    /// One line more: its letter, or the number of the first question that gets a no, with the field where that is about one.
+    fn add(&mut self, fields: &[&[u8]], previous: u8, place: u32) -> Result<u8, (u8, u8)> {
+        let kinds = kinds(fields[0]).filter(|kinds| fields.len() == 1 + kinds.len()).ok_or((3, 0))?;
         let letter = fields[0][0];
-        let n: Vec<usize> = fields[1..].iter().map(|f| number(f).map(|v| v as usize)).collect::<Option<_>>().ok_or(4)?;
+        let n: Vec<usize> = fields[1..].iter().map(|f| number(f).map(|v| v as usize)).collect::<Option<_>>().ok_or((4, 0))?;
         let room = match letter {
             b'M' => self.automata.len() < 16,
             b'E' => self.edges.len() < 256,
@@ -96,36 +118,36 @@ impl Sheet {
             _ => self.nodes.len() < NODES,
         };
         if !room {
-            return Err(5);
+            return Err((5, 0));
         }
         if b"GE".contains(&letter) && !b"MGE".contains(&previous) {
-            return Err(6);
+            return Err((6, 0));
         }
-        if !self.in_range(letter, &n) {
-            return Err(7);
+        // an M line's start is a state of its own automaton
+        let states = if letter == b'M' { n[0] } else { self.automata.last().map_or(0, |m| m.states) };
+        let is_wrong = |i: &usize| !self.range(kinds[*i], states).contains(&n[*i]);
+        if let Some(i) = (0..n.len()).find(is_wrong) {
+            return Err((kinds[i] as u8, i as u8 + 2));
         }
         if letter == b'G' && self.automata.last().unwrap().accepting.contains(&n[0]) {
-            return Err(8);
+            return Err((8, 0));
         }
         if letter == b'E' && n[1] > 0 && self.modal(n[2]) {
-            return Err(9);
+            return Err((9, 0));
         }
         self.take(letter, &n, place);
         Ok(letter)
     }
 
-    fn in_range(&self, letter: u8, n: &[usize]) -> bool {
-        let node = |k: usize| k < self.nodes.len();
-        let state = |s: usize| s < self.automata.last().unwrap().states;
-        match letter {
-            b'P' => n[0] <= 31,
-            b'N' => node(n[0]),
-            b'A' | b'O' => node(n[0]) && node(n[1]),
-            b'D' | b'B' => n[0] < self.automata.len() && node(n[1]),
-            b'M' => (1..=16).contains(&n[0]) && n[1] < n[0],
-            b'G' => state(n[0]),
-            b'E' => state(n[0]) && n[1] <= 2 && node(n[2]) && state(n[3]),
-            _ => true,
+    /// The numbers of a kind that the next line may have, where its automaton has so many states.
+    fn range(&self, kind: Kind, states: usize) -> Range<usize> {
+        match kind {
+            Kind::Fact => 0..32,
+            Kind::Node => 0..self.nodes.len(),
+            Kind::Automaton => 0..self.automata.len(),
+            Kind::State => 0..states,
+            Kind::Direction => 0..3,
+            Kind::States => 1..17,
         }
     }
 

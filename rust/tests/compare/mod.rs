@@ -59,6 +59,8 @@ fn sets_second(row: &Row) -> bool {
     row[SECOND..].iter().any(|number| *number != 0)
 }
 
+/// A refusal of anything but a sheet: it is about no field.
 fn no(r: Refused) -> No {
+    assert_eq!(r.field, 0, "{r}");
     (r.number, r.line)
 }

@@ -7,13 +7,10 @@ use crate::kinds::Kinds;
 
 pub fn compare_page(kinds: &mut Kinds, rules: &[u8], steps: &[u8], room: usize) {
     let theirs = pages::page(rules, steps);
-    let text = match &theirs {
-        Ok(text) => text.clone(),
-        Err((number, line)) => format!("refused,{number},{line}\n"),
-    };
+    let (Ok(text) | Err((_, text))) = &theirs;
     let case = || format!("page of {:?} and {:?}", String::from_utf8_lossy(rules), String::from_utf8_lossy(steps));
-    assert_eq!(String::from_utf8_lossy(&rozsvelen::page(rules, steps)), text, "{}", case());
-    compare_room(kinds, rules, steps, &text, room);
+    assert_eq!(String::from_utf8_lossy(&rozsvelen::page(rules, steps)), *text, "{}", case());
+    compare_room(kinds, rules, steps, text, room);
     match theirs {
         Err((q, _)) => kinds.refused("page", q),
         Ok(text) => {

@@ -27,7 +27,7 @@ fn named(text: &[u8], line: u32) -> &[u8] {
 }
 
 pub fn compare_sheet(kinds: &mut Kinds, text: &[u8]) {
-    let ours = Sheet::read(text).map(|s| *s.numbers()).map_err(no);
+    let ours = Sheet::read(text).map(|s| *s.numbers()).map_err(|no| (no.number, no.line, no.field));
     let theirs = sheets::read(text).map(|s| s.numbers());
     assert_eq!(ours, theirs, "sheet {:?}", String::from_utf8_lossy(text));
     kinds_of_text(kinds, "read_sheet", text);
@@ -37,8 +37,9 @@ pub fn compare_sheet(kinds: &mut Kinds, text: &[u8]) {
             kinds.saw_if(has_padded(text, 2..=3), "read_sheet: read with a padded number");
             kinds.saw_if(nodes_of(text) == sheets::NODES, "read_sheet: read with 128 nodes");
         }
-        Err((q, line)) => {
+        Err((q, line, field)) => {
             kinds.refused("read_sheet", q);
+            kinds.saw_if(field > 0, &format!("read_sheet: {q} in field {field}"));
             kinds.saw_if(q == 4 && has_padded(named(text, line), 4..=4), "read_sheet: 4 of a padded number of four digits");
             kinds.saw_if(q == 5 && nodes_of(named(text, line)) == 1, "read_sheet: 5 of a node");
         }
