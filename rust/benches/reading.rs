@@ -26,7 +26,7 @@ fn same_log(text: &[u8], room: usize) {
 }
 
 fn same_sheet(text: &[u8]) {
-    let proved = Sheet::read(text).map(|s| *s.numbers()).map_err(|no| (no.number, no.line));
+    let proved = Sheet::read(text).map(|s| *s.numbers()).map_err(|no| (no.number, no.line, no.field));
     let mut table = [7; TABLE];
     let unproved = readers::sheet(text, &mut table);
     assert!(unproved.is_ok() || table == [7; TABLE], "a refused sheet altered the table");

@@ -4,6 +4,9 @@ use super::{filled, room, AUTOMATA_AT, COUNTS_AT, EDGES_AT, NODES, TABLE};
 /// The number of the question that got a no, and its line.
 pub type No = (u8, u32);
 
+/// The same of a sheet, and the field of 71 to 76, else 0.
+pub type SheetNo = (u8, u32, u8);
+
 /// A field from place p on: its value (1000 or more: no number) and the place of the byte that ends it (a comma or LF).
 /// The text ends in LF, so a field's end is found before the text's.
 #[inline(always)]
@@ -126,6 +129,17 @@ fn line(s: &[u8], p: usize) -> Result<(u8, [u32; 4], usize), u8> {
     Ok((letter, numbers, end + 1))
 }
 
+/// Questions 71 to 76 of a line's numbers, each with the question about it: the number of the leftmost that gets a no, and its field.
+#[inline(always)]
+fn in_range<const N: usize>(numbers: [(bool, u8); N]) -> Result<(), (u8, u8)> {
+    for (i, (fits, question)) in numbers.into_iter().enumerate() {
+        if !fits {
+            return Err((question, i as u8 + 2));
+        }
+    }
+    Ok(())
+}
+
 /// The table so far, and what the questions ask of the lines so far.
 struct Reading {
     table: [u16; TABLE],
@@ -144,12 +158,12 @@ struct Reading {
 }
 
 /// A sheet's table, where no question gets a no.
-pub fn sheet(s: &[u8], out: &mut [u16; TABLE]) -> Result<(), No> {
+pub fn sheet(s: &[u8], out: &mut [u16; TABLE]) -> Result<(), SheetNo> {
     if s.len() > 49152 {
-        return Err((1, 0));
+        return Err((1, 0, 0));
     }
     if s.last() != Some(&b'\n') {
-        return Err((2, 0));
+        return Err((2, 0, 0));
     }
     let mut reading = Reading {
         table: [0; TABLE],
@@ -166,18 +180,18 @@ pub fn sheet(s: &[u8], out: &mut [u16; TABLE]) -> Result<(), No> {
     let (mut p, mut k) = (0, 0);
     while p < s.len() {
         k += 1;
-        let (letter, numbers, next) = line(s, p).map_err(|number| (number, k))?;
+        let (letter, numbers, next) = line(s, p).map_err(|number| (number, k, 0))?;
         p = next;
-        reading.add(letter, numbers, k).map_err(|number| (number, k))?;
+        reading.add(letter, numbers, k).map_err(|(number, field)| (number, k, field))?;
     }
     *out = reading.whole(k)?;
     Ok(())
 }
 
 impl Reading {
-    /// Questions 5 to 9 of a line, and the table with it.
+    /// Questions 5, 6, 71 to 76, 8 and 9 of a line, and the table with it.
     #[inline(always)]
-    fn add(&mut self, letter: u8, numbers: [u32; 4], k: u32) -> Result<(), u8> {
+    fn add(&mut self, letter: u8, numbers: [u32; 4], k: u32) -> Result<(), (u8, u8)> {
         match letter {
             b'E' => self.edge(numbers),
             b'G' => self.accept(numbers[0]),
@@ -187,18 +201,16 @@ impl Reading {
     }
 
     #[inline(always)]
-    fn edge(&mut self, [from, dir, test, to]: [u32; 4]) -> Result<(), u8> {
+    fn edge(&mut self, [from, dir, test, to]: [u32; 4]) -> Result<(), (u8, u8)> {
         if self.edges == 256 {
-            return Err(5);
+            return Err((5, 0));
         }
         if !self.inside {
-            return Err(6);
+            return Err((6, 0));
         }
-        if from >= self.states || dir > 2 || test >= self.nodes as u32 || to >= self.states {
-            return Err(7);
-        }
+        in_range([(from < self.states, 74), (dir <= 2, 75), (test < self.nodes as u32, 72), (to < self.states, 74)])?;
         if dir > 0 && self.plain >> (test & 127) & 1 == 0 {
-            return Err(9);
+            return Err((9, 0));
         }
         let (at, m) = (EDGES_AT + 4 * self.edges, (self.automata - 1) & 15);
         self.table[at..at + 4].copy_from_slice(&[from as u16, dir as u16, test as u16, to as u16]);
@@ -209,15 +221,13 @@ impl Reading {
     }
 
     #[inline(always)]
-    fn accept(&mut self, state: u32) -> Result<(), u8> {
+    fn accept(&mut self, state: u32) -> Result<(), (u8, u8)> {
         if !self.inside {
-            return Err(6);
+            return Err((6, 0));
         }
-        if state >= self.states {
-            return Err(7);
-        }
+        in_range([(state < self.states, 74)])?;
         if self.accepting >> (state & 31) & 1 == 1 {
-            return Err(8);
+            return Err((8, 0));
         }
         self.accepting |= 1 << (state & 31);
         self.table[AUTOMATA_AT + 6 * ((self.automata - 1) & 15) + 2] = self.accepting as u16;
@@ -225,13 +235,11 @@ impl Reading {
     }
 
     #[inline(always)]
-    fn automaton(&mut self, states: u32, start: u32, k: u32) -> Result<(), u8> {
+    fn automaton(&mut self, states: u32, start: u32, k: u32) -> Result<(), (u8, u8)> {
         if self.automata == 16 {
-            return Err(5);
+            return Err((5, 0));
         }
-        if states.wrapping_sub(1) > 15 || start >= states {
-            return Err(7);
-        }
+        in_range([(states.wrapping_sub(1) <= 15, 76), (start < states, 74)])?;
         let at = AUTOMATA_AT + 6 * self.automata;
         self.table[at..at + 6].copy_from_slice(&[states as u16, start as u16, 0, self.edges as u16, 0, self.nodes as u16]);
         self.lines[self.automata] = k;
@@ -241,21 +249,19 @@ impl Reading {
     }
 
     #[inline(always)]
-    fn node(&mut self, letter: u8, a: u32, b: u32) -> Result<(), u8> {
+    fn node(&mut self, letter: u8, a: u32, b: u32) -> Result<(), (u8, u8)> {
         if self.nodes == NODES {
-            return Err(5);
+            return Err((5, 0));
         }
         let n = self.nodes as u32;
         let (fits, is_plain) = match letter {
-            b'T' | b'F' => (true, true),
-            b'P' => (a < 32, true),
-            b'N' => (a < n, self.plain >> (a & 127) & 1 == 1),
-            b'A' | b'O' => (a < n && b < n, self.plain >> (a & 127) & self.plain >> (b & 127) & 1 == 1),
-            _ => ((a as usize) < self.automata && b < n, false),
+            b'T' | b'F' => (Ok(()), true),
+            b'P' => (in_range([(a < 32, 71)]), true),
+            b'N' => (in_range([(a < n, 72)]), self.plain >> (a & 127) & 1 == 1),
+            b'A' | b'O' => (in_range([(a < n, 72), (b < n, 72)]), self.plain >> (a & 127) & self.plain >> (b & 127) & 1 == 1),
+            _ => (in_range([((a as usize) < self.automata, 73), (b < n, 72)]), false),
         };
-        if !fits {
-            return Err(7);
-        }
+        fits?;
         self.plain |= (is_plain as u128) << n;
         let at = 3 * self.nodes;
         self.table[at..at + 3].copy_from_slice(&[letter as u16, a as u16, b as u16]);
@@ -265,14 +271,14 @@ impl Reading {
     }
 
     /// Questions 10 and 11, after line k, the last.
-    fn whole(mut self, k: u32) -> Result<[u16; TABLE], No> {
+    fn whole(mut self, k: u32) -> Result<[u16; TABLE], SheetNo> {
         for m in 0..self.automata {
             if self.touched[m] != (1u32 << self.table[AUTOMATA_AT + 6 * m]) - 1 {
-                return Err((10, self.lines[m]));
+                return Err((10, self.lines[m], 0));
             }
         }
         if self.inside {
-            return Err((11, k));
+            return Err((11, k, 0));
         }
         self.table[COUNTS_AT..].copy_from_slice(&[self.nodes as u16, self.automata as u16, self.edges as u16]);
         Ok(self.table)
