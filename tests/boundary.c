@@ -1,6 +1,6 @@
 /* What only a caller in C can do or see: the parts of an answer, verdicts, empty slices at NULL, and the stack that each call takes; and numbers
- * with zeros before them, profiles, sheets with spare automata, sheets of up to 128 nodes, logs with counters, steps and entries of counters,
- * rules as text and from text, through the C calls.
+ * with zeros before them, which number of a sheet was wrong, profiles, sheets with spare automata, sheets of up to 128 nodes, logs with counters,
+ * steps and entries of counters, rules as text and from text, through the C calls.
  * Ends in 'N passed, M failed'. */
 #include "rozsvelen.h"
 
@@ -154,6 +154,7 @@ static void answer_parts(void) {
     check("number of an answer", rozsvelen_number(parts) == 0xfff2);
     check("line of an answer", rozsvelen_line(parts) == 0xfff3);
     check("extra of an answer", rozsvelen_extra(parts) == 0xfff4);
+    check("field of an answer", rozsvelen_field(parts) == 0xfff4);
     check("log of an answer", rozsvelen_log(parts) == 0xfff4fff3);
     check("length of an answer", rozsvelen_length(parts) == 0xfff4fff3fff1);
     for (int i = 0; i < LOGS; i++) lengths[i] = 1;
@@ -200,7 +201,7 @@ static void empty_slices(void) {
     check("print_rule with no table", rozsvelen_print_rule(NULL, 0, page, sizeof page) == refused(31));
     check("print_rule into no bytes", rozsvelen_print_rule(table, T, NULL, 0) == refused(55));
     check("print_rule with no table into no bytes", rozsvelen_print_rule(NULL, 0, NULL, 0) == refused(31));
-    check("page of no texts", rozsvelen_page(NULL, 0, NULL, 0, page, sizeof page) == 12 && memcmp(page, "refused,2,0\n", 12) == 0);
+    check("page of no texts", rozsvelen_page(NULL, 0, NULL, 0, page, sizeof page) == 14 && memcmp(page, "refused,2,0,0\n", 14) == 0);
     check("page of no log", rozsvelen_page(sheet, 2, NULL, 0, page, sizeof page) == 13 && memcmp(page, "refused,22,0\n", 13) == 0);
     check("page into no bytes", rozsvelen_page(NULL, 0, NULL, 0, NULL, 0) == refused(44));
 }
@@ -230,6 +231,50 @@ static void check_of(const char *what, const char *sheet, int holds) {
     char name[64];
     snprintf(name, sizeof name, "%s of %s", what, sheet);
     check(name, holds);
+}
+
+/* Which number of a sheet was wrong: 71 to 76 with their field, of several the leftmost; and field 0 beside every other number. */
+static void wrong_numbers(void) {
+    enum { T = ROZSVELEN_TABLE };
+    static const struct { const char *sheet; uint32_t number, line, field; } cases[] = {
+        { "P,32\n", 71, 1, 2 },
+        { "T\nP,032\n", 71, 2, 2 },
+        { "T\nN,1\n", 72, 2, 2 },
+        { "T\nA,0,1\n", 72, 2, 3 },
+        { "T\nA,5,7\n", 72, 2, 2 },
+        { "T\nM,1,0\nE,0,0,0,0\nB,0,1\n", 72, 4, 3 },
+        { "T\nM,1,0\nE,0,0,9,9\n", 72, 3, 4 },
+        { "T\nD,0,0\n", 73, 2, 2 },
+        { "T\nD,9,9\n", 73, 2, 2 },
+        { "M,2,2\n", 74, 1, 3 },
+        { "M,1,0\nG,1\n", 74, 2, 2 },
+        { "T\nM,1,0\nE,1,3,9,1\n", 74, 3, 2 },
+        { "T\nM,1,0\nE,0,0,0,9\n", 74, 3, 5 },
+        { "T\nM,1,0\nE,0,3,9,9\n", 75, 3, 3 },
+        { "M,0,0\n", 76, 1, 2 },
+        { "M,17,99\n", 76, 1, 2 },
+        { "", 2, 0, 0 },
+        { "Q\n", 3, 1, 0 },
+        { "P,x\n", 4, 1, 0 },
+        { "P,0032\n", 4, 1, 0 },
+        { "T\nG,9\n", 6, 2, 0 },
+        { "T\nM,1,0\nG,0\nG,0\n", 8, 4, 0 },
+        { "M,1,0\nT\n", 10, 1, 0 },
+        { "T\nM,1,0\nE,0,0,0,0\n", 11, 3, 0 },
+    };
+    uint16_t out[T], before[T];
+    memset(before, 0x5a, sizeof before);
+    memcpy(out, before, sizeof out);
+    for (size_t i = 0; i < sizeof cases / sizeof *cases; i++) {
+        uint64_t no = rozsvelen_read_sheet(text(cases[i].sheet), strlen(cases[i].sheet), out, T);
+        check_of("the number and line", cases[i].sheet, rozsvelen_number(no) == cases[i].number && rozsvelen_line(no) == cases[i].line);
+        check_of("the field", cases[i].sheet, rozsvelen_field(no) == cases[i].field && rozsvelen_count(no) == 0);
+    }
+    check("read_sheet, refused, the table lent", memcmp(out, before, sizeof out) == 0);
+    check("35 names no field", rozsvelen_field(rozsvelen_read_sheet(text("P,32\n"), 5, out, T - 1)) == 0);
+    check("a sheet that is read has no field", rozsvelen_field(rozsvelen_read_sheet(text("P,31\n"), 5, out, T)) == 0);
+    check("page of a wrong number", rozsvelen_page(text("T\nA,0,1\n"), 8, NULL, 0, page, sizeof page) == 15);
+    check("its line", memcmp(page, "refused,72,2,3\n", 15) == 0);
 }
 
 /* By a sheet of at most 64 nodes: each entry's first word is as wanted, and the second is 0. */
@@ -931,6 +976,7 @@ int main(void) {
     answer_parts();
     empty_slices();
     padded_numbers();
+    wrong_numbers();
     profiles_made();
     profiles_refused();
     profiles_told();
