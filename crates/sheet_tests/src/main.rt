@@ -1,4 +1,4 @@
-// Sheets read and tables checked: `stdin` has the cases, one to a line, and `stdout` what document 01 gives for each.
+// Sheets read and tables checked: `stdin` has the cases, one to a line, and `stdout` what documents 01 and 02 give for each.
 // A line's fields: what is tried, the case's name, its sheet, and for a changed table the numbers that are put there.
 mod tables;
 
@@ -38,10 +38,10 @@ fn answer(line: &[u8]) -> SheetAnswer {
     sheet::read_sheet(&text[..n])
 }
 
-// Prints the answer's number and line, and the counts of an accepted sheet.
+// Prints the answer's number, line and field, and the counts of an accepted sheet.
 fn said(line: &[u8]) {
     let a = answer(line);
-    numbered(a.number, a.line);
+    numbered(a.number, a.line, a.field);
     if a.number == 0 {
         let t = a.table;
         used(t);
@@ -52,9 +52,10 @@ fn used(t: Table) {
     counted(t.used.nodes, t.used.automata, t.used.edges);
 }
 
-fn numbered(number: u8, line: u16) {
+fn numbered(number: u8, line: u16, field: u8) {
     labelled(b" ", number as u64);
     labelled(b",", line as u64);
+    labelled(b",", field as u64);
 }
 
 fn counted(nodes: u8, automata: u8, edges: u16) {

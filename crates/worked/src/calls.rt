@@ -20,7 +20,7 @@ pub(crate) fn sheet_read(line: &[u8]) {
     if a.number == 0 {
         show::read();
     } else {
-        show::refused_at(a.number, a.line as usize);
+        show::refused_in(a.number, a.line, a.field);
     }
 }
 

@@ -18,6 +18,13 @@ pub(crate) fn refused_at(q: u8, line: usize) {
     number(line as u64);
 }
 
+// The same of a sheet, and the field.
+pub(crate) fn refused_in(q: u8, line: u16, field: u8) {
+    refused_at(q, line as usize);
+    io::write_all(1, b", field");
+    number(field as u64);
+}
+
 // A verdict word has so many bits.
 const BITS: usize = aldlf::WORD_BITS as usize;
 
