@@ -14,7 +14,7 @@ pub record Text : Type 0 where
 -- Each text is accepted and read to its table.
 abbrev pub AllRead : List Text → Type 0
 AllRead [] = Unit {0}
-AllRead (x ∷ xs) = (readSheet (x .bytes) ≡ record { number = 0; line = 0; table = x .table }) × AllRead xs
+AllRead (x ∷ xs) = (readSheet (x .bytes) ≡ record { number = 0; line = 0; field = 0; table = x .table }) × AllRead xs
 
 -- The sheets of document 01.
 abbrev pub texts : List Text
