@@ -15,7 +15,9 @@ use Rattle.aldlf.specs.Sheet.{bit, noLine}
 use Rattle.aldlf.specs.declared.NodeLine.{NodeLine}
 use Rattle.sheet.specs.declared.line.Line.{Line}
 use Rattle.sheet.specs.declared.build.Reading.{Reading}
-use Rattle.sheet.specs.Questions.{knownLine, allNumbers, roomLeft, belongs, last, inRange, newlyAccepting, plainNode, plainFrom, plains, plainStep, question}
+use Rattle.sheet.specs.declared.ranges.Stop.{Stop}
+use Rattle.sheet.specs.Ranges.{stopAt, goesOn, outOfRange}
+use Rattle.sheet.specs.Questions.{knownLine, allNumbers, roomLeft, belongs, last, newlyAccepting, plainNode, plainFrom, plains, plainStep, question}
 
 -- what the outcome of a test that a function answers says of the test
 pub yes-is : {r b : Bool} → r ≡ b → not r ≡ false → b ≡ true
@@ -74,40 +76,43 @@ plains-length xs = from-length xs 0 (replicate nodeLimit false)
 
 -- the question that decides
 module _ (r : Reading) (l : Line) where
-  pub question-3 : knownLine l ≡ false → 3 ≡ question r l
+  pub question-3 : knownLine l ≡ false → stopAt 3 0 ≡ question r l
   unfolding question
   question-3 h₃ = rw h₃
 
   module _ (h₃ : knownLine l ≡ true) where
-    pub question-4 : allNumbers l ≡ false → 4 ≡ question r l
+    pub question-4 : allNumbers l ≡ false → stopAt 4 0 ≡ question r l
     unfolding question
     question-4 h₄ = rw (h₃, h₄)
 
     module _ (h₄ : allNumbers l ≡ true) where
-      pub question-5 : roomLeft (r .table .used) l ≡ false → 5 ≡ question r l
+      pub question-5 : roomLeft (r .table .used) l ≡ false → stopAt 5 0 ≡ question r l
       unfolding question
       question-5 h₅ = rw (h₃, h₄, h₅)
 
       module _ (h₅ : roomLeft (r .table .used) l ≡ true) where
-        pub question-6 : belongs (r .inside) l ≡ false → 6 ≡ question r l
+        pub question-6 : belongs (r .inside) l ≡ false → stopAt 6 0 ≡ question r l
         unfolding question
         question-6 h₆ = rw (h₃, h₄, h₅, h₆)
 
         module _ (h₆ : belongs (r .inside) l ≡ true) where
-          pub question-7 : inRange (r .table .used) (last (r .table)) l ≡ false → 7 ≡ question r l
+          pub question-7 : (s : Stop) → s ≡ outOfRange (r .table .used) (last (r .table)) l → (s .number ≡ 0 → ⊥) → s ≡ question r l
           unfolding question
-          question-7 h₇ = rw (h₃, h₄, h₅, h₆, h₇)
+          question-7 s e n = rw (h₃, h₄, h₅, h₆, ← e, ne-eqb (s .number) 0 n)
 
-          module _ (h₇ : inRange (r .table .used) (last (r .table)) l ≡ true) where
-            pub question-8 : newlyAccepting (last (r .table)) l ≡ false → 8 ≡ question r l
+          module _ (h₇ : outOfRange (r .table .used) (last (r .table)) l .number ≡ 0) where
+            pub question-8 : newlyAccepting (last (r .table)) l ≡ false → stopAt 8 0 ≡ question r l
             unfolding question
             question-8 h₈ = rw (h₃, h₄, h₅, h₆, h₇, h₈)
 
             module _ (h₈ : newlyAccepting (last (r .table)) l ≡ true) where
-              pub question-9 : plainStep (r .table .nodes) l ≡ false → 9 ≡ question r l
+              pub question-9 : plainStep (r .table .nodes) l ≡ false → stopAt 9 0 ≡ question r l
               unfolding question
               question-9 h₉ = rw (h₃, h₄, h₅, h₆, h₇, h₈, h₉)
 
-              pub question-0 : plainStep (r .table .nodes) l ≡ true → 0 ≡ question r l
+              pub question-0 : plainStep (r .table .nodes) l ≡ true → goesOn ≡ question r l
               unfolding question
               question-0 h₉ = rw (h₃, h₄, h₅, h₆, h₇, h₈, h₉)
+
+              pub question-passes : plainStep (r .table .nodes) l ≡ true → question r l .number ≡ 0
+              question-passes h₉ = ap (λ (s : Stop). s .number) (sym (question-0 h₉))

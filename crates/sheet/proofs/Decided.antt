@@ -20,11 +20,13 @@ use Rattle.sheet.proofs.Bools.{never, both, same, split}
 use Rattle.sheet.proofs.Each.{each-at, each-all}
 use Rattle.sheet.proofs.Letters.{Kind, kindOf, isT, isF, isP, isN, isG, isA, isO, isD, isB, isM, isE, isNone}
 use Rattle.sheet.proofs.Fits.{edges-last, counts-fit}
-use Rattle.sheet.proofs.Passed.{two-range}
 use Rattle.sheet.proofs.Grown.{NodeOk, AutoOk, EdgeOk, node, auto, edge, Grown, before-mono, okT, okF, okP, okN, okA, okO, okD, okB}
 
 one-of : (a m b : ℕ) → (ltb a m && eqb b 0) ≡ true → (a < m) × (b ≡ 0)
 one-of a m b h = let x = both (ltb a m) (eqb b 0) h in (ltb-true a m (x .0), eqb-true b 0 (x .1))
+
+two-range : (a m b n : ℕ) → (ltb a m && ltb b n) ≡ true → (a < m) × (b < n)
+two-range a m b n h = let x = both (ltb a m) (ltb b n) h in (ltb-true a m (x .0), ltb-true b n (x .1))
 
 none-of : (a b : ℕ) → (eqb a 0 && eqb b 0) ≡ true → (a ≡ 0) × (b ≡ 0)
 none-of a b h = let x = both (eqb a 0) (eqb b 0) h in (eqb-true a 0 (x .0), eqb-true b 0 (x .1))

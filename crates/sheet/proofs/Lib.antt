@@ -8,6 +8,7 @@ pub mod Added
 pub mod Closed
 pub mod Fits
 pub mod Lent
+pub mod InRange
 pub mod Passed
 pub mod Lines
 pub mod Print
@@ -24,6 +25,7 @@ pub mod PeelAutomaton
 pub mod Peel
 pub mod Decided
 pub mod Question31
+pub mod Fields
 pub mod Facts
 pub mod Sound
 pub mod Padded

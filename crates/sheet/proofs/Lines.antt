@@ -8,15 +8,16 @@ use borrow.Author.Tests.{ne-eqb, le-leb, lt-leb}
 use Rattle.text.specs.Text.{byteLimit, lines, fields, endsInLF}
 use Rattle.text.proofs.Lines.{lines-end}
 use Rattle.sheet.specs.declared.build.Reading.{Reading}
-use Rattle.sheet.specs.Questions.{parsed, question, added, start, refused, finish, readLines, readSheet}
+use Rattle.sheet.specs.declared.ranges.Stop.{Stop}
+use Rattle.sheet.specs.Questions.{parsed, question, added, start, refusedBy, refused, finish, readLines, readSheet}
 
-pub read-on : (r : Reading) (k : ℕ) (l : List ℕ) (ls : List (List ℕ)) → question r (parsed (fields l)) ≡ 0 → readLines r k (l ∷ ls) ≡ readLines (added r (k + 1) (parsed (fields l))) (k + 1) ls
+pub read-on : (r : Reading) (k : ℕ) (l : List ℕ) (ls : List (List ℕ)) → question r (parsed (fields l)) .number ≡ 0 → readLines r k (l ∷ ls) ≡ readLines (added r (k + 1) (parsed (fields l))) (k + 1) ls
 unfolding readLines
 read-on r k l ls e = rw e
 
-pub read-no : (r : Reading) (k q : ℕ) (l : List ℕ) (ls : List (List ℕ)) → q ≡ question r (parsed (fields l)) → (q ≡ 0 → ⊥) → refused q (k + 1) ≡ readLines r k (l ∷ ls)
+pub read-no : (r : Reading) (k : ℕ) (q : Stop) (l : List ℕ) (ls : List (List ℕ)) → q ≡ question r (parsed (fields l)) → (q .number ≡ 0 → ⊥) → refusedBy q (k + 1) ≡ readLines r k (l ∷ ls)
 unfolding readLines
-read-no r k q l ls e f = rw (← e, ne-eqb q 0 f)
+read-no r k q l ls e f = rw (← e, ne-eqb (q .number) 0 f)
 
 pub read-end : (r : Reading) (k : ℕ) (text : List ℕ) (at : ℕ) → length text ≤ at → finish r k ≡ readLines r k (lines (drop at text))
 unfolding readLines

@@ -14,7 +14,8 @@ use Rattle.text.proofs.Digits.{number-some, number-digit}
 use Rattle.text.proofs.PaddedLength.{padded-length}
 use Rattle.text.proofs.Padded.{field-number, paired-length}
 use Rattle.sheet.specs.declared.build.Reading.{Reading}
-use Rattle.sheet.specs.Questions.{letterOf, parsed, arity, knownLine, question, added, start, refused, readLines, readSheet}
+use Rattle.sheet.specs.Ranges.{stopAt}
+use Rattle.sheet.specs.Questions.{letterOf, parsed, arity, knownLine, question, added, start, refusedBy, refused, readLines, readSheet}
 use Rattle.sheet.proofs.Letters.{arity-other}
 
 -- each field is the same number
@@ -32,7 +33,7 @@ parsed-same fs gs h e =
     rw (e, paired-length FieldPadded fs gs h, numbers-same fs gs h 1, numbers-same fs gs h 2, numbers-same fs gs h 3, numbers-same fs gs h 4)
 
 -- a line whose first field is no letter is refused by 3
-unknown : (fs : List (List ℕ)) → arity (letterOf (getD fs 0 [])) ≡ 9 → (r : Reading) → question r (parsed fs) ≡ 3
+unknown : (fs : List (List ℕ)) → arity (letterOf (getD fs 0 [])) ≡ 9 → (r : Reading) → question r (parsed fs) ≡ stopAt 3 0
 unfolding question knownLine parsed
 unknown fs e r = rw (e, ne-eqb (min 5 (length fs - 1)) 9 (λ (n : min 5 (length fs - 1) ≡ 9). absurd (omega arith)))
 
@@ -55,7 +56,7 @@ no-letter (b ∷ []) h =
 -- a line and it again: they read to the same, or neither has a letter
 data Alike (fs gs : List (List ℕ)) : Type 0 where
   alike : parsed gs ≡ parsed fs → Alike fs gs
-  neither : ((r : Reading) → question r (parsed fs) ≡ 3) → ((r : Reading) → question r (parsed gs) ≡ 3) → Alike fs gs
+  neither : ((r : Reading) → question r (parsed fs) ≡ stopAt 3 0) → ((r : Reading) → question r (parsed gs) ≡ stopAt 3 0) → Alike fs gs
 
 fields-alike : (fs gs : List (List ℕ)) → Paired FieldPadded fs gs → Alike fs gs
 fields-alike [] [] h = alike refl
@@ -68,8 +69,8 @@ fields-alike (f ∷ fs) (g ∷ gs) (zeros (suc z) n w e, h) =
     neither (unknown (f ∷ fs) (no-letter f n)) (unknown (g ∷ gs) (ap arity (letter-long g (omega (arith, number-some f n)))))
 
 line-step : (r : Reading) (k : ℕ) (fs gs : List (List ℕ)) (ls ms : List (List ℕ)) → Alike fs gs → ((r′ : Reading) → readLines r′ (k + 1) ms ≡ readLines r′ (k + 1) ls)
-    → cond (eqb (question r (parsed gs)) 0) (readLines (added r (k + 1) (parsed gs)) (k + 1) ms) (refused (question r (parsed gs)) (k + 1))
-    ≡ cond (eqb (question r (parsed fs)) 0) (readLines (added r (k + 1) (parsed fs)) (k + 1) ls) (refused (question r (parsed fs)) (k + 1))
+    → cond (eqb (question r (parsed gs) .number) 0) (readLines (added r (k + 1) (parsed gs)) (k + 1) ms) (refusedBy (question r (parsed gs)) (k + 1))
+    ≡ cond (eqb (question r (parsed fs) .number) 0) (readLines (added r (k + 1) (parsed fs)) (k + 1) ls) (refusedBy (question r (parsed fs)) (k + 1))
 line-step r k fs gs ls ms (alike e) f = rw (e, f (added r (k + 1) (parsed fs)))
 line-step r k fs gs ls ms (neither a b) f = rw (a r, b r)
 

@@ -18,11 +18,12 @@ use Rattle.aldlf.specs.declared.Table.{Table}
 use Rattle.text.specs.Text.{notNumber}
 use Rattle.sheet.specs.declared.line.Line.{Line}
 use Rattle.sheet.specs.declared.build.Reading.{Reading}
-use Rattle.sheet.specs.Questions.{knownLine, allNumbers, roomLeft, belongs, last, inRange, newlyAccepting, plainStep, question, withAutomaton, acceptingBy, withAccepting, added, start}
+use Rattle.sheet.specs.Ranges.{isOfKind, kinds, firstWrong, outOfRange}
+use Rattle.sheet.specs.Questions.{knownLine, allNumbers, roomLeft, belongs, last, newlyAccepting, plainStep, question, withAutomaton, acceptingBy, withAccepting, added, start}
 use Rattle.sheet.specs.Given.{edgesBefore, nodesBefore}
 use Rattle.sheet.proofs.Bools.{same}
 use Rattle.sheet.proofs.Fits.{edges-last, nodes-last}
-use Rattle.sheet.proofs.Asked.{question-0}
+use Rattle.sheet.proofs.Asked.{question-passes}
 use Rattle.sheet.proofs.Added.{line-M, line-G}
 use Rattle.sheet.proofs.Print.{Canon}
 use Rattle.sheet.proofs.Reach.{next}
@@ -42,16 +43,16 @@ mLine x = record { letter = letterM; count = 2; a = x .states; b = x .start .0; 
 pub gLine : ℕ → Line
 gLine s = record { letter = letterG; count = 1; a = s; b = 0; c = 0; d = 0 }
 
-m-passes : (r : Reading) (x : Automaton) → r .table .used .automata < 16 → 1 ≤ x .states → x .states ≤ 16 → x .start .0 < x .states → question r (mLine x) ≡ 0
-unfolding knownLine allNumbers roomLeft belongs inRange newlyAccepting plainStep mLine
+m-passes : (r : Reading) (x : Automaton) → r .table .used .automata < 16 → 1 ≤ x .states → x .states ≤ 16 → x .start .0 < x .states → question r (mLine x) .number ≡ 0
+unfolding knownLine allNumbers roomLeft belongs outOfRange kinds isOfKind firstWrong newlyAccepting plainStep mLine
 m-passes r x h some-state states≤ st =
-    sym (question-0 r (mLine x) refl
+    question-passes r (mLine x) refl
     (rw (lt-ltb (x .states) notNumber (omega arith), lt-ltb (x .start .0) notNumber (omega arith)))
     (lt-ltb (r .table .used .automata) 16 h)
     refl
     (simp (le-leb 1 (x .states) some-state, le-leb (x .states) 16 states≤, lt-ltb (x .start .0) (x .states) st))
     refl
-    refl)
+    refl
 
 m-canon : (x : Automaton) → x .states ≤ 16 → x .start .0 < x .states → Canon (mLine x)
 unfolding mLine
@@ -68,10 +69,10 @@ m-canon x states≤ st =
       byte = omega arith;
     }
 
-g-passes : (r : Reading) (s : ℕ) → r .inside ≡ true → s < last (r .table) .states → s < notNumber → bit (last (r .table) .accepting) s ≡ false → question r (gLine s) ≡ 0
-unfolding knownLine allNumbers roomLeft belongs inRange newlyAccepting plainStep gLine
+g-passes : (r : Reading) (s : ℕ) → r .inside ≡ true → s < last (r .table) .states → s < notNumber → bit (last (r .table) .accepting) s ≡ false → question r (gLine s) .number ≡ 0
+unfolding knownLine allNumbers roomLeft belongs outOfRange kinds isOfKind firstWrong newlyAccepting plainStep gLine
 g-passes r s i h w z =
-    sym (question-0 r (gLine s) refl (rw (lt-ltb s notNumber w)) refl i (lt-ltb s (last (r .table) .states) h) (rw z) refl)
+    question-passes r (gLine s) refl (rw (lt-ltb s notNumber w)) refl i (rw (lt-ltb s (last (r .table) .states) h)) (rw z) refl
 
 g-canon : (s : ℕ) → s < 16 → Canon (gLine s)
 unfolding gLine

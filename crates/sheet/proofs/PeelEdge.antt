@@ -18,11 +18,12 @@ use Rattle.aldlf.specs.declared.Table.{Table}
 use Rattle.text.specs.Text.{notNumber}
 use Rattle.sheet.specs.declared.line.Line.{Line}
 use Rattle.sheet.specs.declared.build.Reading.{Reading}
-use Rattle.sheet.specs.Questions.{knownLine, allNumbers, roomLeft, belongs, last, inRange, newlyAccepting, plainStep, question, edgeBy, withEdge, added, start}
+use Rattle.sheet.specs.Ranges.{isOfKind, kinds, firstWrong, outOfRange}
+use Rattle.sheet.specs.Questions.{knownLine, allNumbers, roomLeft, belongs, last, newlyAccepting, plainStep, question, edgeBy, withEdge, added, start}
 use Rattle.sheet.specs.Given.{edgesBefore, nodesBefore}
 use Rattle.sheet.proofs.Bools.{same}
 use Rattle.sheet.proofs.Fits.{edges-last}
-use Rattle.sheet.proofs.Asked.{question-0}
+use Rattle.sheet.proofs.Asked.{question-passes}
 use Rattle.sheet.proofs.Added.{line-E}
 use Rattle.sheet.proofs.Print.{Canon}
 use Rattle.sheet.proofs.Reach.{next}
@@ -33,18 +34,18 @@ pub edgeLine : Edge → Line
 edgeLine e = record { letter = letterE; count = 4; a = e .from .0; b = e .dir; c = e .test .0; d = e .to .0 }
 
 pub edge-passes : (r : Reading) (e : Edge) → r .inside ≡ true → EdgeOk (r .table .nodes) (last (r .table)) e → last (r .table) .states ≤ 16 → last (r .table) .before ≤ r .table .used .nodes
-    → r .table .used .nodes ≤ nodeLimit → r .table .used .edges < 256 → question r (edgeLine e) ≡ 0
-unfolding knownLine allNumbers roomLeft belongs inRange newlyAccepting plainStep edgeLine
+    → r .table .used .nodes ≤ nodeLimit → r .table .used .edges < 256 → question r (edgeLine e) .number ≡ 0
+unfolding knownLine allNumbers roomLeft belongs outOfRange kinds isOfKind firstWrong newlyAccepting plainStep edgeLine
 edge-passes r e i k s b n c =
     let t = r .table in
-    sym (question-0 r (edgeLine e)
+    question-passes r (edgeLine e)
     refl
     (rw (lt-ltb (e .from .0) notNumber (omega (arith, k .from<)), lt-ltb (e .dir) notNumber (omega (arith, k .dir<)), lt-ltb (e .test .0) notNumber (omega (arith, k .test<)), lt-ltb (e .to .0) notNumber (omega (arith, k .to<))))
     (lt-ltb (t .used .edges) 256 c)
     i
     (simp (lt-ltb (e .from .0) (last t .states) (k .from<), lt-ltb (e .dir) 3 (k .dir<), lt-ltb (e .test .0) (t .used .nodes) (omega (arith, k .test<)), lt-ltb (e .to .0) (last t .states) (k .to<)))
     refl
-    (⊎-elim (λ (z : e .dir ≡ 0). rw z) (λ z. rw (ne-eqb (e .dir) 0 z) (k .plainTest z)) (same (e .dir) 0)))
+    (⊎-elim (λ (z : e .dir ≡ 0). rw z) (λ z. rw (ne-eqb (e .dir) 0 z) (k .plainTest z)) (same (e .dir) 0))
 
 pub edge-canon : (ns : List NodeLine) (x : Automaton) (e : Edge) → EdgeOk ns x e → x .states ≤ 16 → x .before ≤ nodeLimit → Canon (edgeLine e)
 unfolding edgeLine

@@ -17,10 +17,11 @@ use Rattle.aldlf.specs.declared.Table.{Table}
 use Rattle.text.specs.Text.{notNumber, comma, lf}
 use Rattle.sheet.specs.declared.line.Line.{Line}
 use Rattle.sheet.specs.declared.build.Reading.{Reading}
-use Rattle.sheet.specs.Questions.{arity, knownLine, allNumbers, roomLeft, belongs, last, inRange, newlyAccepting, plainStep, question, withNode, added}
+use Rattle.sheet.specs.Ranges.{isOfKind, kinds, firstWrong, outOfRange}
+use Rattle.sheet.specs.Questions.{arity, knownLine, allNumbers, roomLeft, belongs, last, newlyAccepting, plainStep, question, withNode, added}
 use Rattle.sheet.specs.Given.{nodesBefore}
 use Rattle.sheet.proofs.Bools.{same}
-use Rattle.sheet.proofs.Asked.{question-0}
+use Rattle.sheet.proofs.Asked.{question-passes}
 use Rattle.sheet.proofs.Added.{line-node}
 use Rattle.sheet.proofs.Passed.{Absent}
 use Rattle.sheet.proofs.Print.{Canon}
@@ -61,8 +62,8 @@ module _ (ac : ℕ) (ms : List Automaton) (i : ℕ) (x : NodeLine) (ha : ac ≤ 
       let w = node-absent k in
       record { shape = w .0; four = w .1; a< = omega arith; b< = omega arith; c< = omega arith; d< = omega arith; parted = s .3; ended = s .4; byte = s .5 }
 
-node-range : (t : Table) (x : NodeLine) → NodeOk (t .used .automata) (t .automata) (t .used .nodes) x → inRange (t .used) (last t) (nodeLine x) ≡ true
-unfolding inRange nodeLine
+node-range : (t : Table) (x : NodeLine) → NodeOk (t .used .automata) (t .automata) (t .used .nodes) x → outOfRange (t .used) (last t) (nodeLine x) .number ≡ 0
+unfolding outOfRange kinds isOfKind firstWrong nodeLine
 node-range t x (okT e p q) = rw e
 node-range t x (okF e p q) = rw e
 node-range t x (okP e p q) = rw (e, lt-ltb (x .a) 32 p)
@@ -72,7 +73,7 @@ node-range t x (okO e p q) = rw (e, lt-ltb (x .a) (t .used .nodes) p, lt-ltb (x 
 node-range t x (okD e p n q) = rw (e, lt-ltb (x .a) (t .used .automata) p, lt-ltb (x .b) (t .used .nodes) q)
 node-range t x (okB e p n q) = rw (e, lt-ltb (x .a) (t .used .automata) p, lt-ltb (x .b) (t .used .nodes) q)
 
-pub node-passes : (r : Reading) (x : NodeLine) → r .table .used .automata ≤ 16 → r .table .used .nodes < nodeLimit → NodeOk (r .table .used .automata) (r .table .automata) (r .table .used .nodes) x → question r (nodeLine x) ≡ 0
+pub node-passes : (r : Reading) (x : NodeLine) → r .table .used .automata ≤ 16 → r .table .used .nodes < nodeLimit → NodeOk (r .table .used .automata) (r .table .automata) (r .table .used .nodes) x → question r (nodeLine x) .number ≡ 0
 unfolding knownLine allNumbers roomLeft belongs newlyAccepting plainStep nodeLine
 node-passes r x ha hn k =
     let t = r .table in
@@ -80,14 +81,14 @@ node-passes r x ha hn k =
     let nM = ne-eqb (x .kind) letterM (s .0) in
     let nG = ne-eqb (x .kind) letterG (s .1) in
     let nE = ne-eqb (x .kind) letterE (s .2) in
-    sym (question-0 r (nodeLine x)
+    question-passes r (nodeLine x)
     (eq-eqb (arity (x .kind)) (arity (x .kind)) refl)
     (rw (lt-ltb (x .a) notNumber (omega arith), lt-ltb (x .b) notNumber (omega arith)))
     (rw (nM, nG, nE) (lt-ltb (t .used .nodes) nodeLimit hn))
     (rw (nG, nE))
     (node-range t x k)
     (rw nG)
-    (rw nE))
+    (rw nE)
 
 -- lines, at most n of them, that build the table
 pub record Built (t : Table) (b : Bool) (n : ℕ) : Type 0 where

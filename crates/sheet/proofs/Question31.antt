@@ -12,8 +12,9 @@ use Rattle.aldlf.specs.declared.Table.{Table}
 use Rattle.text.specs.Text.{byteLimit, lines, fields, endsInLF}
 use Rattle.text.proofs.Lines.{lines-step}
 use Rattle.sheet.specs.declared.build.Reading.{Reading}
+use Rattle.sheet.specs.declared.ranges.Stop.{Stop}
 use Rattle.sheet.specs.declared.SheetAnswer.{SheetAnswer}
-use Rattle.sheet.specs.Questions.{parsed, question, added, start, accepted, refused, wholeOf, finish, readLines, readSheet}
+use Rattle.sheet.specs.Questions.{parsed, question, added, start, accepted, refusedBy, refused, wholeOf, finish, readLines, readSheet}
 use Rattle.sheet.specs.Given.{Given, wellFormed}
 use Rattle.sheet.proofs.Bools.{same}
 use Rattle.sheet.proofs.Passed.{passed, absent}
@@ -38,11 +39,11 @@ end-wf t r k g c e =
     let h : Wf q = record { grown = g′; some = c (s .1); all-used = ltb-false w (q .used .automata) (s .0) } in
     rw (s .2) at h
 
-go-on : (t : Table) (q k : ℕ) (rest : SheetAnswer) → cond (eqb q 0) rest (refused q k) ≡ accepted t → (q ≡ 0) × (rest ≡ accepted t)
+go-on : (t : Table) (q : Stop) (k : ℕ) (rest : SheetAnswer) → cond (eqb (q .number) 0) rest (refusedBy q k) ≡ accepted t → (q .number ≡ 0) × (rest ≡ accepted t)
 go-on t q k rest e =
-    ⊎-elim (λ (z : q ≡ 0). (z, sym (ap (λ (b : Bool). cond b rest (refused q k)) (eq-eqb q 0 z)) ∙ e))
-    (λ f. absurd (f (ap (λ (x : SheetAnswer). x .number) (sym (ap (λ (b : Bool). cond b rest (refused q k)) (ne-eqb q 0 f)) ∙ e))))
-    (same q 0)
+    ⊎-elim (λ (z : q .number ≡ 0). (z, sym (ap (λ (b : Bool). cond b rest (refusedBy q k)) (eq-eqb (q .number) 0 z)) ∙ e))
+    (λ f. absurd (f (ap (λ (x : SheetAnswer). x .number) (sym (ap (λ (b : Bool). cond b rest (refusedBy q k)) (ne-eqb (q .number) 0 f)) ∙ e))))
+    (same (q .number) 0)
 
 lines-wf : (t : Table) (r : Reading) (k : ℕ) (ls : List (List ℕ)) → Grown (r .table) (r .inside) → (r .inside ≡ false → 1 ≤ r .table .used .nodes) → readLines r k ls ≡ accepted t → Wf t
 unfolding readLines

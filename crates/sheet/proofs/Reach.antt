@@ -16,7 +16,7 @@ use Rattle.sheet.proofs.Print.{Canon, printLine, print-reads, textOf, C
 -- readings that lines lead to, each of which passes
 pub data Reach : List Line → Reading → Type 0 where
   begin : Reach [] start
-  next : {ls : List Line} {r : Reading} {l : Line} → Reach ls r → Canon l → question r l ≡ 0 → Reach (ls ++ (l ∷ [])) (added r (length ls + 1) l)
+  next : {ls : List Line} {r : Reading} {l : Line} → Reach ls r → Canon l → question r l .number ≡ 0 → Reach (ls ++ (l ∷ [])) (added r (length ls + 1) l)
 
 pub canons : {ls ms : List Line} → Canons ls → Canons ms → Canons (ls ++ ms)
 canons none b = b
@@ -31,7 +31,7 @@ reach-on begin ms = refl
 reach-on (next {ls = ls} {r = r} {l = l} w k q) ms =
     ap (λ (x : List Line). readLines start 0 (map printLine x)) (append-assoc ls (l ∷ []) ms)
     ∙ reach-on w (l ∷ ms)
-    ∙ read-on r (length ls) (printLine l) (map printLine ms) (ap (question r) (print-reads l k) ∙ q)
+    ∙ read-on r (length ls) (printLine l) (map printLine ms) (ap (λ (x : Line). question r x .number) (print-reads l k) ∙ q)
     ∙ ap (λ (x : Line). readLines (added r (length ls + 1) x) (length ls + 1) (map printLine ms)) (print-reads l k)
     ∙ ap (λ (n : ℕ). readLines (added r (length ls + 1) l) n (map printLine ms)) (sym (length-append ls (l ∷ [])))
 

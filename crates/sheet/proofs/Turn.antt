@@ -9,7 +9,8 @@ use Rattle.text.specs.Text.{byteLimit, lines, fields, endsInLF, lineAt}
 use Rattle.text.proofs.Lines.{lines-at, line-inside}
 use Rattle.sheet.specs.declared.line.Line.{Line}
 use Rattle.sheet.specs.declared.build.Reading.{Reading}
-use Rattle.sheet.specs.Questions.{parsed, question, added, start, refused, finish, readLines, readSheet}
+use Rattle.sheet.specs.declared.ranges.Stop.{Stop}
+use Rattle.sheet.specs.Questions.{parsed, question, added, start, refusedBy, finish, readLines, readSheet}
 use Rattle.sheet.specs.Room.{LineRoom}
 use Rattle.sheet.proofs.Passed.{passed, absent}
 use Rattle.sheet.proofs.Lines.{read-on, read-no, read-end, sheet-on}
@@ -34,13 +35,13 @@ standing-end text r k at s h = read-end r k text at h ∙ s .left
 
 -- one line, which stands at that place
 module _ (text : List ℕ) (r : Reading) (k at : ℕ) (s : Standing text r k at) (h : at < length text) (line : List ℕ) (w : line ≡ lineAt text at) (l : Line) (x : l ≡ parsed (fields line)) where
-  pub turn-no : (q : ℕ) → q ≡ question r l → (q ≡ 0 → ⊥) → refused q (k + 1) ≡ readSheet text
+  pub turn-no : (q : Stop) → q ≡ question r l → (q .number ≡ 0 → ⊥) → refusedBy q (k + 1) ≡ readSheet text
   turn-no q y f = read-no r k q line (lines (drop (at + length line + 1) text)) (y ∙ ap (question r) x) f ∙ ap (readLines r k) (sym (lines-at text at line h w)) ∙ s .left
 
-  pub turn-room : question r l ≡ 0 → LineRoom (r .table) l
+  pub turn-room : question r l .number ≡ 0 → LineRoom (r .table) l
   turn-room y = room-of r l (s .grown) (passed r l y) (rw x (absent (fields line)))
 
-  pub turn-on : question r l ≡ 0 → Standing text (added r (k + 1) l) (k + 1) (at + length line + 1)
+  pub turn-on : question r l .number ≡ 0 → Standing text (added r (k + 1) l) (k + 1) (at + length line + 1)
   turn-on y =
       let rest = lines (drop (at + length line + 1) text) in
       record {
@@ -51,7 +52,7 @@ module _ (text : List ℕ) (r : Reading) (k at : ℕ) (s : Standing text r k at)
         grown = grows r (k + 1) l (s .grown) (passed r l y) (rw x (absent (fields line)));
         left =
             ap (λ (z : Line). readLines (added r (k + 1) z) (k + 1) rest) x
-            ∙ sym (read-on r k line rest (ap (question r) (sym x) ∙ y))
+            ∙ sym (read-on r k line rest (ap (λ (z : Line). question r z .number) (sym x) ∙ y))
             ∙ ap (readLines r k) (sym (lines-at text at line h w))
             ∙ s .left;
       }

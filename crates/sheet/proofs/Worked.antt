@@ -8,7 +8,8 @@ use Rattle.aldlf.specs.Constants.{nodeLimit, letterT, letterP, letterD}
 use Rattle.aldlf.specs.Sheet.{noLine, noEdge, noAutomaton}
 use Rattle.aldlf.specs.declared.Table.{Table}
 use Rattle.text.specs.Text.{pieces, lines, number, numberIn, allDigits, valueOf}
-use Rattle.sheet.specs.Questions.{parsed, knownLine, allNumbers, roomLeft, belongs, inRange, newlyAccepting, plainFrom, plainStep, question, withNode, withAutomaton, withAccepting, withEdge, withLine, added, emptyTable, accepted, refused, someEdge, each, whole, finish, readLines, readSheet}
+use Rattle.sheet.specs.Ranges.{isOfKind, kinds, stopAt, firstWrong, outOfRange}
+use Rattle.sheet.specs.Questions.{parsed, knownLine, allNumbers, roomLeft, belongs, newlyAccepting, plainFrom, plainStep, question, withNode, withAutomaton, withAccepting, withEdge, withLine, added, emptyTable, accepted, refusedBy, refused, someEdge, each, whole, finish, readLines, readSheet}
 use Rattle.sheet.specs.Given.{nodeFits, edgeFits, headFits, edgesFit, usedFits, nodesFit, automataFit, nodesEnd, automataEnd, edgesEnd, wellFormed}
 
 -- W: `T` `P,1` `M,1,0` `G,0` `E,0,1,0,0` `D,0,1`
@@ -26,7 +27,7 @@ tableW =
     }
 
 pub W-reads : readSheet W ≡ accepted tableW
-unfolding readSheet readLines finish question added withLine withNode withAutomaton withAccepting withEdge parsed knownLine allNumbers roomLeft belongs inRange newlyAccepting plainStep plainFrom whole each someEdge lines pieces number numberIn allDigits valueOf
+unfolding readSheet readLines finish question added withLine withNode withAutomaton withAccepting withEdge parsed knownLine allNumbers roomLeft belongs outOfRange kinds isOfKind firstWrong newlyAccepting plainStep plainFrom whole each someEdge lines pieces number numberIn allDigits valueOf
 W-reads = refl
 
 pub W-given : wellFormed tableW ≡ true
@@ -56,24 +57,24 @@ table7 =
 -- `P,7`, `P,07` and `P,007` are fact 7
 pub padded-7 : (readSheet (80 ∷ 44 ∷ 55 ∷ 10 ∷ []) ≡ accepted table7) × (readSheet (80 ∷ 44 ∷ 48 ∷ 55 ∷ 10 ∷ []) ≡ accepted table7)
     × (readSheet (80 ∷ 44 ∷ 48 ∷ 48 ∷ 55 ∷ 10 ∷ []) ≡ accepted table7)
-unfolding readSheet readLines finish question added withLine withNode parsed knownLine allNumbers roomLeft belongs inRange newlyAccepting plainStep whole lines pieces number numberIn allDigits valueOf
+unfolding readSheet readLines finish question added withLine withNode parsed knownLine allNumbers roomLeft belongs outOfRange kinds isOfKind firstWrong newlyAccepting plainStep whole lines pieces number numberIn allDigits valueOf
 padded-7 = (refl, refl, refl)
 
 -- `P,0007`
 pub four-digits-4 : readSheet (80 ∷ 44 ∷ 48 ∷ 48 ∷ 48 ∷ 55 ∷ 10 ∷ []) ≡ refused 4 1
-unfolding readSheet readLines question parsed knownLine allNumbers roomLeft belongs inRange newlyAccepting plainStep lines pieces number numberIn allDigits valueOf
+unfolding readSheet readLines question parsed knownLine allNumbers roomLeft belongs outOfRange kinds isOfKind firstWrong newlyAccepting plainStep lines pieces number numberIn allDigits valueOf
 four-digits-4 = refl
 
 -- `P,32`; `P,31`
-pub fact-7 : readSheet (80 ∷ 44 ∷ 51 ∷ 50 ∷ 10 ∷ []) ≡ refused 7 1
-unfolding readSheet readLines question parsed knownLine allNumbers roomLeft belongs inRange newlyAccepting plainStep lines pieces number numberIn allDigits valueOf
-fact-7 = refl
+pub fact-71 : readSheet (80 ∷ 44 ∷ 51 ∷ 50 ∷ 10 ∷ []) ≡ refusedBy (stopAt 71 2) 1
+unfolding readSheet readLines question parsed knownLine allNumbers roomLeft belongs outOfRange kinds isOfKind firstWrong newlyAccepting plainStep lines pieces number numberIn allDigits valueOf
+fact-71 = refl
 
 pub fact-31 : readSheet (80 ∷ 44 ∷ 51 ∷ 49 ∷ 10 ∷ []) .number ≡ 0
-unfolding readSheet readLines finish question added withLine withNode parsed knownLine allNumbers roomLeft belongs inRange newlyAccepting plainStep whole lines pieces number numberIn allDigits valueOf
+unfolding readSheet readLines finish question added withLine withNode parsed knownLine allNumbers roomLeft belongs outOfRange kinds isOfKind firstWrong newlyAccepting plainStep whole lines pieces number numberIn allDigits valueOf
 fact-31 = refl
 
 -- `M,1,0` then `T`: the M line is line 1
 pub bare-10 : readSheet (77 ∷ 44 ∷ 49 ∷ 44 ∷ 48 ∷ 10 ∷ 84 ∷ 10 ∷ []) ≡ refused 10 1
-unfolding readSheet readLines finish question added withLine withNode withAutomaton parsed knownLine allNumbers roomLeft belongs inRange newlyAccepting plainStep whole each someEdge lines pieces number numberIn allDigits valueOf
+unfolding readSheet readLines finish question added withLine withNode withAutomaton parsed knownLine allNumbers roomLeft belongs outOfRange kinds isOfKind firstWrong newlyAccepting plainStep whole each someEdge lines pieces number numberIn allDigits valueOf
 bare-10 = refl

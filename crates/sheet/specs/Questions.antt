@@ -1,10 +1,10 @@
--- Questions 1 to 11 of document 01, in its order: a sheet's text to its table, or to the first question that gets a no and the line it is about.
+-- Questions 1 to 11 of document 01, in its order: a sheet's text to its table, or to the first question that gets a no, and the line and the field it is about. Question 7 stands in Ranges.
 use Prim.Native.Nat.{ℕ, zero, suc, _+_, _-_, _^_, min}
 use mathlib.Core.List.{List, [], _∷_}
 use mathlib.Core.Bool.{Bool, true, false, cond, not, _&&_, _||_}
 use lib.ListN.{length, getD, take, drop, set, replicate}
 use lib.Dec.{ltb, leb, eqb}
-use Rattle.aldlf.specs.Constants.{nodeLimit, automatonLimit, stateLimit, edgeLimit, factLimit, letterT, letterF, letterP, letterN, letterA, letterO, letterD, letterB, letterM, letterG, letterE}
+use Rattle.aldlf.specs.Constants.{nodeLimit, automatonLimit, edgeLimit, letterT, letterF, letterP, letterN, letterA, letterO, letterD, letterB, letterM, letterG, letterE}
 use Rattle.aldlf.specs.Sheet.{bit, noLine, noEdge, noAutomaton}
 use Rattle.aldlf.specs.declared.NodeLine.{NodeLine}
 use Rattle.aldlf.specs.declared.Edge.{Edge}
@@ -14,7 +14,9 @@ use Rattle.aldlf.specs.declared.Table.{Table}
 use Rattle.text.specs.Text.{lines, fields, endsInLF, number, byteLimit, notNumber}
 use Rattle.sheet.specs.declared.line.Line.{Line}
 use Rattle.sheet.specs.declared.build.Reading.{Reading}
+use Rattle.sheet.specs.declared.ranges.Stop.{Stop}
 use Rattle.sheet.specs.declared.SheetAnswer.{SheetAnswer}
+use Rattle.sheet.specs.Ranges.{goesOn, stopAt, outOfRange}
 
 -- The letter of a line's first field: its one byte; 0 for a field of another length.
 abbrev pub letterOf : List ℕ → ℕ
@@ -71,46 +73,6 @@ belongs inside l = cond (eqb (l .letter) letterG || eqb (l .letter) letterE) ins
 abbrev pub last : Table → Automaton
 last t = getD (t .automata) (t .used .automata - 1) noAutomaton
 
--- Question 7, one check for each kind of field: a fact;
-abbrev pub isFact : ℕ → Bool
-isFact f = ltb f factLimit
-
--- a node on an earlier line;
-abbrev pub isNode : Used → ℕ → Bool
-isNode u a = ltb a (u .nodes)
-
--- an automaton on an earlier line;
-abbrev pub isAutomaton : Used → ℕ → Bool
-isAutomaton u m = ltb m (u .automata)
-
--- how many states an automaton has;
-abbrev pub isStateCount : ℕ → Bool
-isStateCount q = leb 1 q && leb q stateLimit
-
--- the start of an automaton of q states;
-abbrev pub isStart : ℕ → ℕ → Bool
-isStart q r = ltb r q
-
--- a state of the automaton x;
-abbrev pub isState : Automaton → ℕ → Bool
-isState x s = ltb s (x .states)
-
--- the direction of an edge.
-abbrev pub isDirection : ℕ → Bool
-isDirection d = ltb d 3
-
--- Question 7: all numbers are in range, asked from left to right.
-unfoldable pub inRange : Used → Automaton → Line → Bool
-inRange u x l =
-    cond (eqb (l .letter) letterP) (isFact (l .a))
-    (cond (eqb (l .letter) letterN) (isNode u (l .a))
-    (cond (eqb (l .letter) letterA || eqb (l .letter) letterO) (isNode u (l .a) && isNode u (l .b))
-    (cond (eqb (l .letter) letterD || eqb (l .letter) letterB) (isAutomaton u (l .a) && isNode u (l .b))
-    (cond (eqb (l .letter) letterM) (isStateCount (l .a) && isStart (l .a) (l .b))
-    (cond (eqb (l .letter) letterG) (isState x (l .a))
-    (cond (eqb (l .letter) letterE) (isState x (l .a) && isDirection (l .b) && isNode u (l .c) && isState x (l .d))
-    true))))))
-
 -- Question 8: the state of a G line does not accept yet.
 unfoldable pub newlyAccepting : Automaton → Line → Bool
 newlyAccepting x l = cond (eqb (l .letter) letterG) (not (bit (x .accepting) (l .a))) true
@@ -136,21 +98,25 @@ plains nodes = plainFrom nodes 0 (replicate nodeLimit false)
 unfoldable pub plainStep : List NodeLine → Line → Bool
 plainStep nodes l = cond (eqb (l .letter) letterE && not (eqb (l .b) 0)) (getD (plains nodes) (l .c) false) true
 
--- A question: its number where the answer is no, the later questions where it is yes.
-abbrev pub ask : Bool → ℕ → ℕ → ℕ
-ask answer n later = cond answer later n
+-- A question about the line as a whole: it stops where the answer is no; where it is yes, the later questions are asked.
+abbrev pub ask : Bool → ℕ → Stop → Stop
+ask answer n later = cond answer later (stopAt n 0)
 
--- The first of questions 3 to 9 that gets a no; 0 where there is none.
-unfoldable pub question : Reading → Line → ℕ
+-- A question about the fields: where it stops at none, the later questions are asked.
+abbrev pub askFields : Stop → Stop → Stop
+askFields s later = cond (eqb (s .number) 0) later s
+
+-- The first of questions 3 to 9 that gets a no; it goes on where there is none.
+unfoldable pub question : Reading → Line → Stop
 question r l =
     ask (knownLine l) 3
     (ask (allNumbers l) 4
     (ask (roomLeft (r .table .used) l) 5
     (ask (belongs (r .inside) l) 6
-    (ask (inRange (r .table .used) (last (r .table)) l) 7
+    (askFields (outOfRange (r .table .used) (last (r .table)) l)
     (ask (newlyAccepting (last (r .table)) l) 8
     (ask (plainStep (r .table .nodes) l) 9
-    0))))))
+    goesOn))))))
 
 -- The table with one node line more.
 unfoldable pub withNode : Table → Line → Table
@@ -243,12 +209,15 @@ emptyTable =
 abbrev pub start : Reading
 start = record { table = emptyTable; inside = false; mlines = replicate automatonLimit 0 }
 
--- The answers: a table, or a question's number and a line.
+-- The answers: a table; what stops the reading at line k; and a question's number and a line, where it is about no field.
 abbrev pub accepted : Table → SheetAnswer
-accepted t = record { number = 0; line = 0; table = t }
+accepted t = record { number = 0; line = 0; field = 0; table = t }
+
+abbrev pub refusedBy : Stop → ℕ → SheetAnswer
+refusedBy s k = record { number = s .number; line = k; field = s .field; table = emptyTable }
 
 abbrev pub refused : ℕ → ℕ → SheetAnswer
-refused n k = record { number = n; line = k; table = emptyTable }
+refused n k = refusedBy (stopAt n 0) k
 
 -- Whether the edge e leaves or enters state s.
 abbrev pub standsOn : ℕ → Edge → Bool
@@ -295,7 +264,7 @@ readLines r k (l ∷ ls) =
     let x = parsed (fields l) in
     let q = question r x in
     let rest = readLines (added r (k + 1) x) (k + 1) ls in
-    cond (eqb q 0) rest (refused q (k + 1))
+    cond (eqb (q .number) 0) rest (refusedBy q (k + 1))
 
 -- Question 1: at most 49,152 bytes. Question 2: the text ends in LF. Then its lines.
 unfoldable pub readSheet : List ℕ → SheetAnswer

@@ -1,7 +1,7 @@
--- What only the code's own contracts need: a line's fields one at a time, and where a line's numbers fit the table's places.
+-- What only the code's own contracts need: a line's fields one at a time, those of an edge after the first, and where a line's numbers fit the table's places.
 use Prim.Native.Nat.{ℕ, _+_, _^_, _≤_, _<_, min}
 use mathlib.Core.Path.{_≡_}
-use mathlib.Core.List.{List, []}
+use mathlib.Core.List.{List, [], _∷_}
 use mathlib.Core.Bool.{cond}
 use lib.ListN.{length, drop}
 use lib.Dec.{ltb}
@@ -11,6 +11,8 @@ use Rattle.aldlf.specs.declared.Used.{Used}
 use Rattle.text.specs.Text.{fields}
 use Rattle.sheet.specs.declared.line.Line.{Line}
 use Rattle.sheet.specs.declared.line.Field.{Field}
+use Rattle.sheet.specs.declared.ranges.Stop.{Stop}
+use Rattle.sheet.specs.Ranges.{aNode, aState, aDirection, isOfKind, firstWrong}
 use Rattle.sheet.specs.Questions.{last, numberAt}
 
 -- The fields of a line after the comma at a place; none at the line's end.
@@ -22,6 +24,10 @@ pub record FieldAfter (l : List ℕ) (at : ℕ) (f : Field) : Type 0 where
   pub there : f .there ≡ min 1 (length (fieldsAfter l at))
   pub value : f .value ≡ numberAt (fieldsAfter l at) 0
   pub rest : fieldsAfter l (f .end) ≡ drop 1 (fieldsAfter l at)
+
+-- The fields of an E line after the first state, of q states.
+abbrev pub afterState : Used → ℕ → Line → Stop
+afterState u q l = firstWrong (isOfKind u q) 3 (aDirection ∷ aNode ∷ aState ∷ []) (l .b ∷ l .c ∷ l .d ∷ [])
 
 -- The counts of a table are within the limits, and there is a node.
 pub record CountsFit (u : Used) : Type 0 where

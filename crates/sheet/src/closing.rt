@@ -36,6 +36,7 @@ pub(crate) fn finish_of(r: Reading, k: u16) -> SheetAnswer
     SheetAnswer {
         number: 0,
         line: 0,
+        field: 0,
         table: t,
     }
 }

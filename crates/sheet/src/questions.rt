@@ -1,6 +1,9 @@
-// Questions 3 to 9, one function each, in the paper's order; `question_of` asks them all.
+// Questions 3 to 9, one function each (7 in ranges.rt), in the paper's order; `question_of` asks them all.
 use super::build::Reading;
 use super::line::Line;
+use super::ranges::Stop;
+use super::ranges::out_of_range;
+use super::ranges::stop_at;
 use aldlf::Automaton;
 use aldlf::NodeLine;
 use aldlf::Table;
@@ -11,10 +14,10 @@ ghost use Prim.Native.Nat.{_≤_};
 ghost use lib.ListN.{getD};
 ghost use Rattle.aldlf.specs.Constants.{automatonLimit};
 ghost use Rattle.aldlf.specs.Sheet.{bit};
-ghost use Rattle.sheet.specs.Questions.{arity, knownLine, allNumbers, roomLeft, belongs, last, isFact, isNode, isAutomaton, isStateCount, isStart, isState, isDirection, inRange, newlyAccepting, plainNode, plains, plainStep, question};
+ghost use Rattle.sheet.specs.Questions.{arity, knownLine, allNumbers, roomLeft, belongs, last, newlyAccepting, plainNode, plains, plainStep, question};
 
-// The first of questions 3 to 9 that gets a no, or 0.
-pub(crate) fn question_of(r: Reading, l: Line) -> u8
+// The first of questions 3 to 9 that gets a no, if one does.
+pub(crate) fn question_of(r: Reading, l: Line) -> Stop
     requires { ⌜ r .table .used .automata ≤ automatonLimit ⌝ }
     ensures { λ x. ⌜ x ≡ question r l ⌝ }
 {
@@ -23,27 +26,28 @@ pub(crate) fn question_of(r: Reading, l: Line) -> u8
     let nodes = t.nodes;
     let x = last_of(t);
     if !known_line(l) {
-        return 3;
+        return stop_at(3, 0);
     }
     if !all_numbers(l) {
-        return 4;
+        return stop_at(4, 0);
     }
     if !room_left(used, l) {
-        return 5;
+        return stop_at(5, 0);
     }
     if !belongs_here(r.inside, l) {
-        return 6;
+        return stop_at(6, 0);
     }
-    if !in_range(used, x, l) {
-        return 7;
+    let wrong = out_of_range(used, x, l);
+    if wrong.number != 0 {
+        return wrong;
     }
     if !newly_accepting(x, l) {
-        return 8;
+        return stop_at(8, 0);
     }
     if !plain_step(nodes, l) {
-        return 9;
+        return stop_at(9, 0);
     }
-    0
+    stop_at(0, 0)
 }
 
 // Question 3.
@@ -113,65 +117,6 @@ pub(crate) fn last_of(t: Table) -> Automaton
     }
     let i = (n - 1) as usize;
     t.automata[i]
-}
-
-// Question 7, for each kind of line its fields from left to right.
-fn in_range(u: Used, x: Automaton, l: Line) -> bool
-    ensures { λ r. ⌜ r ≡ inRange u x l ⌝ }
-{
-    let c = l.letter;
-    match c {
-        b'P' => is_fact(l.a),
-        b'N' => is_node(u, l.a),
-        b'A' | b'O' => is_node(u, l.a) & is_node(u, l.b),
-        b'D' | b'B' => is_automaton(u, l.a) & is_node(u, l.b),
-        b'M' => is_state_count(l.a) & is_start(l.a, l.b),
-        b'G' => is_state(x, l.a),
-        b'E' => is_state(x, l.a) & is_direction(l.b) & is_node(u, l.c) & is_state(x, l.d),
-        _ => true,
-    }
-}
-
-fn is_fact(f: u16) -> bool
-    ensures { λ r. ⌜ r ≡ isFact f ⌝ }
-{
-    (f as usize) < aldlf::FACTS
-}
-
-fn is_node(u: Used, a: u16) -> bool
-    ensures { λ r. ⌜ r ≡ isNode u a ⌝ }
-{
-    a < u.nodes as u16
-}
-
-fn is_automaton(u: Used, m: u16) -> bool
-    ensures { λ r. ⌜ r ≡ isAutomaton u m ⌝ }
-{
-    m < u.automata as u16
-}
-
-fn is_state_count(q: u16) -> bool
-    ensures { λ r. ⌜ r ≡ isStateCount q ⌝ }
-{
-    (1 <= q) & (q as usize <= aldlf::STATES)
-}
-
-fn is_start(q: u16, r: u16) -> bool
-    ensures { λ x. ⌜ x ≡ isStart q r ⌝ }
-{
-    r < q
-}
-
-fn is_state(x: Automaton, s: u16) -> bool
-    ensures { λ r. ⌜ r ≡ isState x s ⌝ }
-{
-    s < x.states as u16
-}
-
-fn is_direction(d: u16) -> bool
-    ensures { λ r. ⌜ r ≡ isDirection d ⌝ }
-{
-    d < 3
 }
 
 // Question 8.

@@ -3,7 +3,8 @@ use Rattle.sheet.proofs.Turn.{Standing, standing-start, standing-end, t
 use Rattle.sheet.proofs.Lines.{sheet-1, sheet-2}
 use Rattle.sheet.proofs.Asked.{yes-is, no-is}
 use Prim.Native.Nat.{_-_, _≤_}
-use mathlib.Core.Path.{sym, _∙_}
+use mathlib.Core.Path.{ap, sym, _∙_}
+use Rattle.sheet.specs.declared.ranges.Stop.{Stop}
 use native.Mathlib.Omega.{arith}
 use lib.ListN.{length}
 use denote.Ref.{now}
@@ -52,25 +53,25 @@ add-k c = omega (arith, c .before .before .before .loop .inv .counted, c .before
 question-of-requires : tie.Need-question-of-requires Inv-loop μ-loop
 question-of-requires c κs = c .before .before .before .loop .inv .grown .automata≤
 
-refusal-requires-3 : tie.Need-refusal-requires-3 Inv-loop μ-loop
-refusal-requires-3 c κs = search needs
+refusal-by-requires : tie.Need-refusal-by-requires Inv-loop μ-loop
+refusal-by-requires c κs = search needs
 
 returns-3 : tie.Need-returns-3 Inv-loop μ-loop
 returns-3 c =
+    let text = now (c .before .before .before .before .before .before .before .before .before .before .before .before .before .args .text) in
+    let l = c .before .before .before .before .before .before .before .loop in
+    let line = c .before .before .before .before .before .line-at in
+    let x = c .before .before .before .before .parse-line in
+    let q = c .before .before .before .question-of in
+    c .refusal-by .ensures ∙ turn-no text (l .r) (l .k) (l .at) (l .inv) (c .before .before .before .before .before .before .loop-test .taken) (now (line .result)) (line .ensures) (x .result) (x .ensures) (q .result) (q .ensures) (c .before .if3 .taken)
+
+added-to-requires : tie.Need-added-to-requires Inv-loop μ-loop
+added-to-requires c κs =
     let text = now (c .before .before .before .before .before .before .before .before .before .before .before .before .args .text) in
     let l = c .before .before .before .before .before .before .loop in
     let line = c .before .before .before .before .line-at in
     let x = c .before .before .before .parse-line in
-    let q = c .before .before .question-of in
-    c .refusal3 .ensures ∙ turn-no text (l .r) (l .k) (l .at) (l .inv) (c .before .before .before .before .before .loop-test .taken) (now (line .result)) (line .ensures) (x .result) (x .ensures) (q .result) (q .ensures) (c .before .if3 .taken)
-
-added-to-requires : tie.Need-added-to-requires Inv-loop μ-loop
-added-to-requires c κs =
-    let text = now (c .before .before .before .before .before .before .before .before .before .before .before .args .text) in
-    let l = c .before .before .before .before .before .loop in
-    let line = c .before .before .before .line-at in
-    let x = c .before .before .parse-line in
-    turn-room text (l .r) (l .k) (l .at) (l .inv) (c .before .before .before .before .loop-test .taken) (now (line .result)) (line .ensures) (x .result) (x .ensures) (sym (c .before .question-of .ensures) ∙ c .if3 .left)
+    turn-room text (l .r) (l .k) (l .at) (l .inv) (c .before .before .before .before .before .loop-test .taken) (now (line .result)) (line .ensures) (x .result) (x .ensures) (ap (λ (s : Stop). s .number) (sym (c .before .before .question-of .ensures)) ∙ c .if3 .left)
 
 add-at : tie.Need-add-at Inv-loop μ-loop
 add-at c = omega arith
@@ -83,11 +84,11 @@ loop-less c = omega arith
 
 loop-again : tie.Need-loop-again Inv-loop μ-loop
 loop-again c =
-    let text = now (c .before .before .before .before .before .before .before .before .before .before .before .before .args .text) in
-    let l = c .before .before .before .before .before .before .loop in
-    let line = c .before .before .before .before .line-at in
-    let x = c .before .before .before .parse-line in
-    rw (c .added-to .ensures) (turn-on text (l .r) (l .k) (l .at) (l .inv) (c .before .before .before .before .before .loop-test .taken) (now (line .result)) (line .ensures) (x .result) (x .ensures) (sym (c .before .before .question-of .ensures) ∙ c .before .if3 .left))
+    let text = now (c .before .before .before .before .before .before .before .before .before .before .before .before .before .args .text) in
+    let l = c .before .before .before .before .before .before .before .loop in
+    let line = c .before .before .before .before .before .line-at in
+    let x = c .before .before .before .before .parse-line in
+    rw (c .added-to .ensures) (turn-on text (l .r) (l .k) (l .at) (l .inv) (c .before .before .before .before .before .before .loop-test .taken) (now (line .result)) (line .ensures) (x .result) (x .ensures) (ap (λ (s : Stop). s .number) (sym (c .before .before .before .question-of .ensures)) ∙ c .before .if3 .left))
 
 finish-of-requires : tie.Need-finish-of-requires Inv-loop μ-loop
 finish-of-requires c κs = c .before .loop .inv .grown .automata≤
@@ -114,7 +115,7 @@ read-sheet-spec =
     parse-line-requires
     add-k
     question-of-requires
-    refusal-requires-3
+    refusal-by-requires
     returns-3
     added-to-requires
     add-at
