@@ -17,7 +17,8 @@ use Rattle.aldlf.specs.declared.Edge.{Edge}
 use Rattle.aldlf.specs.declared.Automaton.{Automaton}
 use Rattle.aldlf.specs.declared.Table.{Table}
 use Rattle.text.specs.Text.{notNumber}
-use Rattle.sheet.specs.Questions.{arity, knownLine, allNumbers, roomLeft, belongs, last, inRange, newlyAccepting, plainStep, withNode}
+use Rattle.sheet.specs.Ranges.{isOfKind, kinds, firstWrong, outOfRange}
+use Rattle.sheet.specs.Questions.{arity, knownLine, allNumbers, roomLeft, belongs, last, newlyAccepting, plainStep, withNode}
 use Rattle.sheet.proofs.Bools as bools
 use Rattle.sheet.proofs.Grown.{EdgeOk, Grown, mk, auto, edge}
 use Rattle.sheet.proofs.Grow.{grow-node, grow-M, grow-G, grow-E}
@@ -42,7 +43,7 @@ Modal t l = (x y : ℕ) → x < t .used .automata → y < t .used .nodes → Gro
 -- A NODE LINE that passes the sheet's questions keeps what holds of a table that lines have built
 module _ (t : Table) (b : Bool) (g : Grown t b) (room : t .used .nodes < nodeLimit) where
   grows-letter : (l x y : ℕ) → ¬ (l ≡ letterM) → ¬ (l ≡ letterG) → ¬ (l ≡ letterE) → x < notNumber → y < notNumber
-      → inRange (t .used) (last t) (record { letter = l; count = arity l; a = x; b = y; c = 0; d = 0 }) ≡ true → (arity l ≤ 0 → x ≡ 0) → (arity l ≤ 1 → y ≡ 0) → arity l ≤ 5 → Grown (withLetter t l x y) false
+      → outOfRange (t .used) (last t) (record { letter = l; count = arity l; a = x; b = y; c = 0; d = 0 }) .number ≡ 0 → (arity l ≤ 0 → x ≡ 0) → (arity l ≤ 1 → y ≡ 0) → arity l ≤ 5 → Grown (withLetter t l x y) false
   unfolding knownLine allNumbers roomLeft belongs newlyAccepting plainStep
   grows-letter l x y m q h lx ly range none-a none-b few =
       grow-node (record { table = t; inside = b; mlines = [] }) _ g
@@ -58,33 +59,33 @@ module _ (t : Table) (b : Bool) (g : Grown t b) (room : t .used .nodes < nodeLim
       (record { a0 = none-a; b0 = none-b; c0 = λ k. refl; d0 = λ k. refl; few = few }) m q h
 
   pub grows-T : Grown (withLetter t letterT 0 0) false
-  unfolding inRange
+  unfolding outOfRange kinds isOfKind firstWrong
   grows-T = grows-letter letterT 0 0 (omega arith) (omega arith) (omega arith) (omega arith) (omega arith) refl (λ k. refl) (λ k. refl) (omega arith)
 
   grows-P : (f : ℕ) → f < factLimit → Grown (withLetter t letterP f 0) false
-  unfolding inRange
-  grows-P f l = grows-letter letterP f 0 (omega arith) (omega arith) (omega arith) (omega arith) (omega arith) (lt-ltb f factLimit l) (λ k. absurd (omega arith)) (λ k. refl) (omega arith)
+  unfolding outOfRange kinds isOfKind firstWrong
+  grows-P f l = grows-letter letterP f 0 (omega arith) (omega arith) (omega arith) (omega arith) (omega arith) (rw (lt-ltb f factLimit l)) (λ k. absurd (omega arith)) (λ k. refl) (omega arith)
 
   grows-N : (x : ℕ) → x < t .used .nodes → Grown (withLetter t letterN x 0) false
-  unfolding inRange
-  grows-N x l = grows-letter letterN x 0 (omega arith) (omega arith) (omega arith) (omega arith) (omega arith) (lt-ltb x (t .used .nodes) l) (λ k. absurd (omega arith)) (λ k. refl) (omega arith)
+  unfolding outOfRange kinds isOfKind firstWrong
+  grows-N x l = grows-letter letterN x 0 (omega arith) (omega arith) (omega arith) (omega arith) (omega arith) (rw (lt-ltb x (t .used .nodes) l)) (λ k. absurd (omega arith)) (λ k. refl) (omega arith)
 
   grows-A : BothBelow t letterA
-  unfolding inRange
+  unfolding outOfRange kinds isOfKind firstWrong
   grows-A x y l h = grows-letter letterA x y (omega arith) (omega arith) (omega arith) (omega arith) (omega arith) (rw (lt-ltb x (t .used .nodes) l, lt-ltb y (t .used .nodes) h) refl) (λ k. absurd (omega arith)) (λ k. absurd (omega arith)) (omega arith)
 
   grows-O : BothBelow t letterO
-  unfolding inRange
+  unfolding outOfRange kinds isOfKind firstWrong
   grows-O x y l h = grows-letter letterO x y (omega arith) (omega arith) (omega arith) (omega arith) (omega arith) (rw (lt-ltb x (t .used .nodes) l, lt-ltb y (t .used .nodes) h) refl) (λ k. absurd (omega arith)) (λ k. absurd (omega arith)) (omega arith)
 
   grows-D : Modal t letterD
-  unfolding inRange
+  unfolding outOfRange kinds isOfKind firstWrong
   grows-D x y l h =
       let few = g .automata≤ in
       grows-letter letterD x y (omega arith) (omega arith) (omega arith) (omega arith) (omega arith) (rw (lt-ltb x (t .used .automata) l, lt-ltb y (t .used .nodes) h) refl) (λ k. absurd (omega arith)) (λ k. absurd (omega arith)) (omega arith)
 
   grows-B : Modal t letterB
-  unfolding inRange
+  unfolding outOfRange kinds isOfKind firstWrong
   grows-B x y l h =
       let few = g .automata≤ in
       grows-letter letterB x y (omega arith) (omega arith) (omega arith) (omega arith) (omega arith) (rw (lt-ltb x (t .used .automata) l, lt-ltb y (t .used .nodes) h) refl) (λ k. absurd (omega arith)) (λ k. absurd (omega arith)) (omega arith)

@@ -78,3 +78,8 @@ fact-31 = refl
 pub bare-10 : readSheet (77 ∷ 44 ∷ 49 ∷ 44 ∷ 48 ∷ 10 ∷ 84 ∷ 10 ∷ []) ≡ refused 10 1
 unfolding readSheet readLines finish question added withLine withNode withAutomaton parsed knownLine allNumbers roomLeft belongs outOfRange kinds isOfKind firstWrong newlyAccepting plainStep whole each someEdge lines pieces number numberIn allDigits valueOf
 bare-10 = refl
+
+-- `T` `M,1,0` `E,0,3,9,9`: the direction is the leftmost of three numbers out of range
+pub leftmost-75 : readSheet (84 ∷ 10 ∷ 77 ∷ 44 ∷ 49 ∷ 44 ∷ 48 ∷ 10 ∷ 69 ∷ 44 ∷ 48 ∷ 44 ∷ 51 ∷ 44 ∷ 57 ∷ 44 ∷ 57 ∷ 10 ∷ []) ≡ refusedBy (stopAt 75 3) 3
+unfolding readSheet readLines finish question added withLine withNode withAutomaton parsed knownLine allNumbers roomLeft belongs outOfRange kinds isOfKind firstWrong newlyAccepting plainStep whole each someEdge lines pieces number numberIn allDigits valueOf
+leftmost-75 = refl

@@ -33,34 +33,21 @@ pub(crate) fn stop_at(number: u8, field: u8) -> Stop
     Stop { number, field }
 }
 
-// For each letter its fields from left to right.
+// For each letter its fields from left to right; the second field of a line that has two is looked at first.
 pub(crate) fn out_of_range(u: Used, x: Automaton, l: Line) -> Stop
     ensures { λ r. ⌜ r ≡ outOfRange u x l ⌝ }
 {
     let c = l.letter;
     let q = x.states as u16;
     let on = stop_at(0, 0);
+    let node = check(is_node(u, l.b), NODE, 3, on);
+    let start = check(is_state(l.a, l.b), STATE, 3, on);
     match c {
         b'P' => check(is_fact(l.a), FACT, 2, on),
         b'N' => check(is_node(u, l.a), NODE, 2, on),
-        b'A' | b'O' => check(
-            is_node(u, l.a),
-            NODE,
-            2,
-            check(is_node(u, l.b), NODE, 3, on),
-        ),
-        b'D' | b'B' => check(
-            is_automaton(u, l.a),
-            AUTOMATON,
-            2,
-            check(is_node(u, l.b), NODE, 3, on),
-        ),
-        b'M' => check(
-            is_count(l.a),
-            COUNT,
-            2,
-            check(is_state(l.a, l.b), STATE, 3, on),
-        ),
+        b'A' | b'O' => check(is_node(u, l.a), NODE, 2, node),
+        b'D' | b'B' => check(is_automaton(u, l.a), AUTOMATON, 2, node),
+        b'M' => check(is_count(l.a), COUNT, 2, start),
         b'G' => check(is_state(q, l.a), STATE, 2, on),
         b'E' => check(is_state(q, l.a), STATE, 2, after_state(u, q, l)),
         _ => on,

@@ -8,6 +8,7 @@ use Rattle.aldlf.specs.Outcomes.{partVerdicts, wholeNumber, wholeOutcome, partN
 use Rattle.aldlf.specs.Walks.{walkIn, walkOf, walkNumber, walkOutcome}
 use Rattle.aldlf.specs.Jobs.{AllRight, jobs}
 use Rattle.text.specs.Text.{pieces, lines, number, numberIn, allDigits, valueOf}
+use Rattle.sheet.specs.Ranges as ranges
 use Rattle.sheet.specs.Questions as sheet
 use Rattle.sheet.specs.Questions.{plainFrom, someEdge, each, whole}
 use Rattle.sheet.specs.Given.{nodeFits, edgeFits, headFits, edgesFit, usedFits, nodesFit, automataFit, nodesEnd, automataEnd, edgesEnd, wellFormed}
@@ -19,5 +20,5 @@ starred =
     ((refl, refl), ((refl, refl), ((refl, refl), ((refl, refl), ((refl, refl), ((refl, refl), ((refl, refl), ((refl, refl), ((refl, refl), ((refl, refl), ((refl, refl), (refl, (refl, (refl, (refl, ((refl, refl, refl), ((refl, refl, refl), ((refl, refl, refl), ((refl, refl, refl), tt)))))))))))))))))))
 
 pub sheets-read : AllRead texts
-unfolding pieces lines number numberIn allDigits valueOf sheet.parsed sheet.knownLine sheet.allNumbers sheet.roomLeft sheet.belongs sheet.inRange sheet.newlyAccepting sheet.plainFrom sheet.plainStep sheet.question sheet.withNode sheet.withAutomaton sheet.withAccepting sheet.withEdge sheet.withLine sheet.added sheet.someEdge sheet.each sheet.whole sheet.finish sheet.readLines sheet.readSheet
+unfolding pieces lines number numberIn allDigits valueOf sheet.parsed sheet.knownLine sheet.allNumbers sheet.roomLeft sheet.belongs ranges.outOfRange ranges.kinds ranges.isOfKind ranges.firstWrong sheet.newlyAccepting sheet.plainFrom sheet.plainStep sheet.question sheet.withNode sheet.withAutomaton sheet.withAccepting sheet.withEdge sheet.withLine sheet.added sheet.someEdge sheet.each sheet.whole sheet.finish sheet.readLines sheet.readSheet
 sheets-read = (refl, (refl, (refl, (refl, (refl, (refl, tt))))))
