@@ -12,6 +12,12 @@ use Rattle.appending.specs.Appending.{Stored, Appends}
 use Rattle.appending.proofs.Storing.{printed-length, printed-whole, appends-whole}
 use Rattle.appending.specs.Placed.{Printed, unprinted, placed}
 
+-- a text that was stored where it fits is there
+pub stored-there : (text room after : List ℕ) (n : ℕ) → length text ≤ length room → Stored text room after n → take n after ≡ text
+stored-there text room after n h s =
+    let c : length text ≡ n = omega (arith, s .place) in
+    ap (take n) (s .text ∙ printed-whole text room h) ∙ take-at text (drop (length text) room) n c
+
 -- of the number that a refusal has
 module _ (number : ℕ) where
   -- a text that fits
@@ -45,9 +51,7 @@ module _ (number : ℕ) where
       ⊎-elim (λ long.
       let k : length (take n after) ≡ length room = omega (arith, length-take n after, ap length (s .text), printed-length text room, s .place) in
       placed-refused (take n after) lent (omega arith) ∙ sym (placed-refused text lent (omega arith)))
-      (λ fits.
-      let c : length text ≡ n = omega (arith, s .place) in
-      ap (λ (l : List ℕ). placed number l lent) (ap (take n) (s .text ∙ printed-whole text room fits) ∙ take-at text (drop (length text) room) n c))
+      (λ fits. ap (λ (l : List ℕ). placed number l lent) (stored-there text room after n fits s))
       (lt-or-le (length room) (length text))
 
   -- no more bytes are answered for than the text and the buffer have

@@ -36,17 +36,17 @@ outcome r slice = record { answer = r; slice = slice }
 abbrev pub ofLength : ℕ → List ℕ → Outcome → Outcome
 ofLength n lent rest = cond (eqb (length lent) n) rest (outcome (refusal 35) lent)
 
--- a table as it is given: number and line; the table's numbers where it was accepted
-abbrev pub tableInto : List ℕ → (number line : ℕ) → Table → Outcome
-tableInto lent number line t = outcome (answerCode number line 0 0) (cond (eqb number 0) (tableNumbers t) lent)
+-- a table as it is given: number, line and field; the table's numbers where it was accepted
+abbrev pub tableInto : List ℕ → (number line field : ℕ) → Table → Outcome
+tableInto lent number line field t = outcome (answerCode number line 0 field) (cond (eqb number 0) (tableNumbers t) lent)
 
--- reading a sheet into a lent table
+-- reading a sheet into a lent table; what is given besides is the field that a refusal is about
 unfoldable pub sheetOutcome : (text table : List ℕ) → Outcome
-sheetOutcome text table = let a = readSheet text in ofLength tableSize table (tableInto table (a .number) (a .line) (a .table))
+sheetOutcome text table = let a = readSheet text in ofLength tableSize table (tableInto table (a .number) (a .line) (a .field) (a .table))
 
 -- making the profile of a lent table in another; it is about no line
 unfoldable pub profileMade : (table out : List ℕ) → Outcome
-profileMade table out = let a = profileOutcome (tableOf table) in ofLength tableSize out (tableInto out (a .number) 0 (a .table))
+profileMade table out = let a = profileOutcome (tableOf table) in ofLength tableSize out (tableInto out (a .number) 0 0 (a .table))
 
 -- whether a lent table is in the profile: a yes counts 1
 unfoldable pub profileAsked : List ℕ → ℕ

@@ -45,7 +45,7 @@ const LENGTH: u8 = 35;
 // The boundary's own question: the number of a way is 1 or 2.
 const WAY: u8 = 43;
 
-// Reads a sheet's text into a table. A refusal alters nothing.
+// Reads a sheet's text into a table. Besides, a refusal gives its field; it alters nothing.
 #[no_mangle]
 pub extern "C" fn rozsvelen_read_sheet(text: &[u8], table: &mut [u16]) -> u64
     ensures { λ r. ⌜ outcome r (now (table .exit)) ≡ sheetOutcome (now (text .entry)) (now (table .entry)) ⌝ }
@@ -55,11 +55,11 @@ pub extern "C" fn rozsvelen_read_sheet(text: &[u8], table: &mut [u16]) -> u64
     }
     let s = sheet::read_sheet(text);
     if s.number != 0 {
-        return code(s.number, s.line as usize, 0, 0);
+        return code(s.number, s.line as usize, 0, s.field as u16);
     }
     let t = s.table;
     put_table(t, table);
-    code(s.number, s.line as usize, 0, 0)
+    code(s.number, s.line as usize, 0, s.field as u16)
 }
 
 // Puts the table in the plain profile that a table gives into another. A refusal alters nothing.

@@ -1,6 +1,7 @@
 -- 40,000 bytes take every page by a formula.
 use Prim.Native.Nat.{ℕ, _≤_, _<_}
 use mathlib.Core.Path.{_≡_, ap, sym, _∙_}
+use mathlib.Core.Logic.{⊎-elim}
 use mathlib.Core.List.{List, _++_}
 use native.Mathlib.Omega.{arith}
 use lib.ListN.{length, drop}
@@ -10,8 +11,11 @@ use Rattle.compile.specs.Answers.{formulaAnswer}
 use Rattle.compile.proofs.Request.{answer-small}
 use Rattle.report.specs.Page.{pageLimit, printedOf}
 use Rattle.report.specs.declared.PageAnswer.{PageAnswer}
+use Rattle.lines.proofs.Lengths.{refusal-length}
+use Rattle.sheet.proofs.Bools.{same}
 use Rattle.report.proofs.Fits.{rule-page-fits}
 use Rattle.formula_report.specs.FormulaPage.{formulaPageOf, formulaPageOutcome}
+use Rattle.formula_report.proofs.Pages.{formula-refused, formula-read}
 
 module _ (rule steps lent : List ℕ) where
   -- what a caller may take from an answer: the bytes are within the buffer
@@ -23,8 +27,11 @@ module _ (rule steps lent : List ℕ) where
 
   -- every page is within the limit
   pub formula-page-fits : length (formulaPageOf rule steps) ≤ pageLimit
-  unfolding formulaPageOf
-  formula-page-fits = rule-page-fits (formulaAnswer rule .number) (formulaAnswer rule .place) (formulaAnswer rule .table) steps (answer-small rule .0) (answer-small rule .1)
+  formula-page-fits =
+      let a = formulaAnswer rule in
+      ⊎-elim (λ (z : a .number ≡ 0). rw (formula-read rule steps z) (rule-page-fits (a .table) steps))
+      (λ z. rw (formula-refused rule steps z) (omega (arith, refusal-length (a .number) (a .place) (omega (arith, answer-small rule .0)) (omega (arith, answer-small rule .1)))))
+      (same (a .number) 0)
 
   module _ (h : pageLimit ≤ length lent) where
     -- so a buffer of that many bytes takes it whole

@@ -6,6 +6,7 @@ use mathlib.Core.Logic.{_↔_, Iff·trans}
 use mathlib.Core.Bool.{true}
 use mathlib.Core.List.{List}
 use lib.ListN.{length}
+use borrow.Author.Tests.{eq-eqb, ne-eqb}
 use Rattle.aldlf.specs.Constants.{entryLimit}
 use Rattle.aldlf.specs.Sheet.{sheetOf}
 use Rattle.aldlf.specs.Meaning.{Holds}
@@ -21,12 +22,12 @@ use Rattle.formula.specs.Grammar.{Writes}
 use Rattle.compile.specs.declared.FormulaAnswer.{FormulaAnswer}
 use Rattle.compile.specs.Answers.{formulaAnswer}
 use Rattle.compile.proofs.Request.{formula-right}
-use Rattle.report.specs.Page.{ruleOf, logPage, pageOf}
+use Rattle.report.specs.Page.{ruleOf, rulePage, pageOf}
 use Rattle.report.specs.Readable.{readPage}
-use Rattle.report.proofs.Pages.{rule-refused, rule-read}
+use Rattle.report.proofs.Pages.{sheet-read}
 use Rattle.report.proofs.Printed.{printed-iff}
 use Rattle.report.proofs.Readable.{judged, words, log-page-read}
-use Rattle.formula_report.specs.FormulaPage.{formulaPageOf}
+use Rattle.formula_report.specs.FormulaPage.{readFormulaPage, formulaPageOf}
 
 module _ (rule steps : List ℕ) where
   abbrev f : FormulaAnswer
@@ -34,19 +35,19 @@ module _ (rule steps : List ℕ) where
 
   -- a refused formula: the log is not looked at
   pub formula-refused : (f .number ≡ 0 → ⊥) → formulaPageOf rule steps ≡ refusalLine (f .number) (f .place)
-  unfolding formulaPageOf
-  formula-refused z = sym (rule-refused (f .number) (f .place) (f .table) steps z)
+  unfolding formulaPageOf readFormulaPage
+  formula-refused z = rw (ne-eqb (f .number) 0 z)
 
-  pub formula-read : f .number ≡ 0 → formulaPageOf rule steps ≡ logPage (f .table) (readLog steps entryLimit)
-  unfolding formulaPageOf
-  formula-read z = sym (rule-read (f .number) (f .place) (f .table) steps z)
+  pub formula-read : f .number ≡ 0 → formulaPageOf rule steps ≡ rulePage (f .table) steps
+  unfolding formulaPageOf readFormulaPage
+  formula-read z = rw (eq-eqb (f .number) 0 z)
 
   -- a sheet that reads to the formula's table has the same page
   pub sheet-same : (rules : List ℕ) → f .number ≡ 0 → readSheet rules .number ≡ 0 → readSheet rules .table ≡ f .table → pageOf rules steps ≡ formulaPageOf rule steps
   unfolding pageOf
   sheet-same rules z y e =
       let a = readSheet rules in
-      sym (rule-read (a .number) (a .line) (a .table) steps y) ∙ ap (λ (t : Table). logPage t (readLog steps entryLimit)) e ∙ sym (formula-read z)
+      sheet-read a steps y ∙ ap (λ (t : Table). rulePage t steps) e ∙ sym (formula-read z)
 
 -- a formula that was accepted, and a log that was read
 module _ (rule steps log : List ℕ) (z : formulaAnswer rule .number ≡ 0) (read : readLog steps entryLimit ≡ entries log) where

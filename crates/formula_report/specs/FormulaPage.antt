@@ -1,14 +1,17 @@
 -- The printed page by a formula: what its text reads to, and then the page as a sheet's.
 use Prim.Native.Nat.{ℕ}
+use mathlib.Core.Bool.{cond}
 use mathlib.Core.List.{List}
+use lib.Dec.{eqb}
 use Rattle.appending.specs.Placed.{Printed, placed}
 use Rattle.compile.specs.declared.FormulaAnswer.{FormulaAnswer}
 use Rattle.compile.specs.Answers.{formulaAnswer}
+use Rattle.lines.specs.Lines.{refusalLine}
 use Rattle.report.specs.Page.{rulePage}
 
--- the page of a formula as read and a log: a refusal's line ends in its place
-abbrev pub readFormulaPage : FormulaAnswer → List ℕ → List ℕ
-readFormulaPage a steps = rulePage (a .number) (a .place) (a .table) steps
+-- the page of a formula as read and a log: that of a refused formula is the line of its refusal, which ends in its place
+unfoldable pub readFormulaPage : FormulaAnswer → List ℕ → List ℕ
+readFormulaPage a steps = cond (eqb (a .number) 0) (rulePage (a .table) steps) (refusalLine (a .number) (a .place))
 
 -- the page of a formula and a log
 unfoldable pub formulaPageOf : (rule steps : List ℕ) → List ℕ

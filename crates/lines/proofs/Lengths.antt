@@ -7,13 +7,21 @@ use lib.Dec.{ltb}
 use lib.ListN.{length, getD, length-append}
 use Rattle.aldlf.specs.Constants.{nodeLimit, entryLimit, edgeLimit}
 use Rattle.aldlf.specs.Outcomes.{one, verdictAt}
-use Rattle.lines.specs.Lines.{entriesIn, verdictDigit, refusalLine, entryLine, entriesBelow, ruleLine, verdictLines, edgesBelow, walkLine}
+use Rattle.lines.specs.Lines.{entriesIn, verdictDigit, refusedAt, refusalLine, sheetRefusalLine, entryLine, entriesBelow, ruleLine, verdictLines, edgesBelow, walkLine}
 use Rattle.appending.proofs.Decimals.{decimal-length}
 
 -- a refusal
+refused-length : (q k : ℕ) → q < 1000 → k < 100000 → length (refusedAt q k) ≤ 17
+unfolding refusedAt
+refused-length q k hq hk = simp length-append (omega (arith, decimal-length 2 q hq, decimal-length 4 k hk))
+
 pub refusal-length : (q k : ℕ) → q < 1000 → k < 100000 → length (refusalLine q k) ≤ 18
 unfolding refusalLine
-refusal-length q k hq hk = simp length-append (omega (arith, decimal-length 2 q hq, decimal-length 4 k hk))
+refusal-length q k hq hk = simp length-append (omega (arith, refused-length q k hq hk))
+
+pub sheet-refusal-length : (q k f : ℕ) → q < 1000 → k < 100000 → f < 1000 → length (sheetRefusalLine q k f) ≤ 22
+unfolding sheetRefusalLine
+sheet-refusal-length q k f hq hk hf = simp length-append (omega (arith, refused-length q k hq hk, decimal-length 2 f hf))
 
 verdict-le : (words : List ℕ) (i k : ℕ) → verdictDigit words i k < 10
 verdict-le words i k = go (ltb k nodeLimit && (ltb i (entriesIn words) && verdictAt words i k))

@@ -33,9 +33,17 @@ wordNone = 110 ∷ 111 ∷ 110 ∷ 101 ∷ []
 abbrev pub wordRefused : List ℕ
 wordRefused = 114 ∷ 101 ∷ 102 ∷ 117 ∷ 115 ∷ 101 ∷ 100 ∷ 44 ∷ []
 
+-- `refused,number,line`, a line's end to follow
+unfoldable pub refusedAt : (number line : ℕ) → List ℕ
+refusedAt number line = wordRefused ++ decimal number ++ (comma ∷ []) ++ decimal line
+
 -- a refusal: `refused,number,line`
 unfoldable pub refusalLine : (number line : ℕ) → List ℕ
-refusalLine number line = wordRefused ++ decimal number ++ (comma ∷ []) ++ decimal line ++ (lf ∷ [])
+refusalLine number line = refusedAt number line ++ (lf ∷ [])
+
+-- a sheet's refusal tells the field too: `refused,number,line,field`
+unfoldable pub sheetRefusalLine : (number line field : ℕ) → List ℕ
+sheetRefusalLine number line field = refusedAt number line ++ (comma ∷ []) ++ decimal field ++ (lf ∷ [])
 
 -- how many entries have these verdict words, two for each
 abbrev pub entriesIn : List ℕ → ℕ

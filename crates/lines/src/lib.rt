@@ -6,18 +6,35 @@ use appending::put_bytes;
 use appending::put_number;
 ghost use mathlib.Core.Path.{_≡_};
 ghost use lib.ListN.{length};
-ghost use Rattle.lines.specs.Lines.{refusalLine, entriesIn, verdictDigit, entryLine, entriesBelow, ruleLine, verdictLines, edgesBelow, walkLine, noWalkLine};
+ghost use Rattle.lines.specs.Lines.{refusedAt, refusalLine, sheetRefusalLine, entriesIn, verdictDigit, entryLine, entriesBelow, ruleLine, verdictLines, edgesBelow, walkLine, noWalkLine};
 ghost use Rattle.appending.specs.Appending.{Appends};
 
 // `refused,number,line`
 pub fn put_refusal(out: &mut [u8], at: usize, number: u8, line: usize) -> usize
     ensures { λ r. ⌜ Appends (refusalLine number line) (now (out .entry)) at (now (out .exit)) r ⌝ }
 {
+    let end_at = put_refused(out, at, number, line);
+    put(out, end_at, b'\n')
+}
+
+// `refused,number,line,field`, as a sheet's refusal has it
+pub fn put_sheet_refusal(out: &mut [u8], at: usize, number: u8, line: usize, field: u8) -> usize
+    ensures { λ r. ⌜ Appends (sheetRefusalLine number line field) (now (out .entry)) at (now (out .exit)) r ⌝ }
+{
+    let comma_at = put_refused(out, at, number, line);
+    let field_at = put(out, comma_at, b',');
+    let end_at = put_number(out, field_at, field as usize);
+    put(out, end_at, b'\n')
+}
+
+// A refusal's number and line, the end of the line to follow.
+fn put_refused(out: &mut [u8], at: usize, number: u8, line: usize) -> usize
+    ensures { λ r. ⌜ Appends (refusedAt number line) (now (out .entry)) at (now (out .exit)) r ⌝ }
+{
     let number_at = put_bytes(out, at, b"refused,");
     let comma_at = put_number(out, number_at, number as usize);
     let line_at = put(out, comma_at, b',');
-    let end_at = put_number(out, line_at, line);
-    put(out, end_at, b'\n')
+    put_number(out, line_at, line)
 }
 
 // The verdict on a node at an entry, as a digit: 1 where it holds, 0 where it fails, and where there is no such node or entry.

@@ -1,6 +1,7 @@
 -- Every page is at most 40,000 bytes long: at most 512 lines of 6 bytes, a line for the rule, and a walk of at most 8,191 edges of at most 4 bytes.
 use Prim.Native.Nat.{ℕ, zero, suc, _*_, _≤_, _<_}
 use mathlib.Core.Path.{_≡_, refl, ap, sym, _∙_}
+use mathlib.Core.Logic.{⊎-elim}
 use mathlib.Core.Bool.{Bool, true, false, cond, _||_}
 use mathlib.Core.List.{List, [], _∷_, _++_}
 use native.Mathlib.Omega.{arith}
@@ -18,6 +19,7 @@ use Rattle.aldlf.proofs.Outcomes.{held-le, whole-number, whole-yes, whole-held}
 use Rattle.sheet.specs.Questions.{readSheet}
 use Rattle.sheet.specs.Given.{wellFormed}
 use Rattle.sheet.specs.Facts.{TableFacts}
+use Rattle.sheet.proofs.Bools.{same}
 use Rattle.sheet.proofs.Facts.{table-facts}
 use Rattle.walk.proofs.Questions.{outcome-0, outcome-most}
 use Rattle.joblog.specs.Log.{LogRead, entries, refused, readLog}
@@ -25,10 +27,11 @@ use Rattle.joblog.proofs.Answers.{Sound, sound-log}
 use Rattle.lines.specs.Lines.{refusalLine, verdictLines, walkLine, noWalkLine}
 use Rattle.report.specs.Page.{lentWords, walkLimit, pageLimit, ruleOf, refusedWalk, shownLine, walkPage, judgedPage, tablePage, logPage, rulePage, pageOf, printedOf, pageOutcome}
 use Rattle.report.specs.declared.PageAnswer.{PageAnswer}
-use Rattle.lines.proofs.Lengths.{refusal-length, verdicts-length, walk-length}
+use Rattle.lines.proofs.Lengths.{refusal-length, sheet-refusal-length, verdicts-length, walk-length}
 use Rattle.appending.specs.Placed.{Printed, placed}
 use Rattle.appending.proofs.Placed.{placed-fits, placed-count}
 use Rattle.report.proofs.Numbers.{first-le, sheet-small, edges-small}
+use Rattle.report.proofs.Pages.{sheet-refused, sheet-read}
 
 refused-walk-length : (q : ℕ) → q ≤ 40 → length (refusedWalk q) ≤ 18
 unfolding refusedWalk noWalkLine
@@ -92,11 +95,10 @@ log-page-length : (t : Table) (r : LogRead) → Sound entryLimit r → length (l
 log-page-length t (entries log) s = table-page-length t log
 log-page-length t (refused q k) s = omega (arith, refusal-length q k (omega (arith, s .number≤)) (omega (arith, s .line≤)))
 
--- by a rule as it was read: its refusal's number and place are those of a call, a byte and two
-pub rule-page-fits : (number place : ℕ) (t : Table) (steps : List ℕ) → number < 256 → place < 65536 → length (rulePage number place t steps) ≤ pageLimit
+-- by a rule that was read
+pub rule-page-fits : (t : Table) (steps : List ℕ) → length (rulePage t steps) ≤ pageLimit
 unfolding rulePage
-rule-page-fits zero place t steps hn hp = log-page-length t (readLog steps entryLimit) (sound-log steps entryLimit)
-rule-page-fits (suc q) place t steps hn hp = omega (arith, refusal-length (suc q) place (omega arith) (omega arith))
+rule-page-fits t steps = log-page-length t (readLog steps entryLimit) (sound-log steps entryLimit)
 
 -- every page is within the limit
 pub page-fits : (rules steps : List ℕ) → length (pageOf rules steps) ≤ pageLimit
@@ -104,7 +106,9 @@ unfolding pageOf
 page-fits rules steps =
     let a = readSheet rules in
     let s = sheet-small rules in
-    rule-page-fits (a .number) (a .line) (a .table) steps (omega (arith, s .number≤)) (omega (arith, s .line≤))
+    ⊎-elim (λ (z : a .number ≡ 0). rw (sheet-read a steps z) (rule-page-fits (a .table) steps))
+    (λ z. rw (sheet-refused a steps z) (omega (arith, sheet-refusal-length (a .number) (a .line) (a .field) (omega (arith, s .number≤)) (omega (arith, s .line≤)) (omega (arith, s .field≤)))))
+    (same (a .number) 0)
 
 -- so a buffer of that many bytes takes every page whole
 pub page-whole : (rules steps lent : List ℕ) → pageLimit ≤ length lent

@@ -20,11 +20,9 @@ use Rattle.aldlf.proofs.Shortest.{best-of}
 use Rattle.text.specs.Text.{lf, lines, glue, byteLimit, endsInLF, fields}
 use Rattle.sheet.specs.Questions as sheet
 use Rattle.sheet.specs.declared.SheetAnswer.{SheetAnswer}
+use Rattle.sheet.specs.Ranges.{aCount}
 use Rattle.sheet.specs.Facts.{TableFacts}
-
-pick-le : (b : Bool) (x y n : ℕ) → x ≤ n → y ≤ n → cond b x y ≤ n
-pick-le true x y n p q = p
-pick-le false x y n p q = q
+use Rattle.sheet.proofs.Fields.{question-right}
 
 -- Questions -------------------------------------------------------------------------------------------------------------------
 
@@ -54,25 +52,15 @@ Reading = Given sheet.finish
 abbrev SheetLine : Type 0
 SheetLine = Given sheet.knownLine
 
--- an answer whose number is at most 11 and whose line is at most n
+-- an answer whose number is at most 76, whose line is at most n, and whose field is at most 5
 pub record Small (a : SheetAnswer) (n : ℕ) : Type 0 where
-  pub number≤ : a .number ≤ 11
+  pub number≤ : a .number ≤ aCount
   pub line≤ : a .line ≤ n
+  pub field≤ : a .field ≤ 5
 
 pick-small : (b : Bool) (x y : SheetAnswer) (n : ℕ) → Small x n → Small y n → Small (cond b x y) n
 pick-small true x y n p q = p
 pick-small false x y n p q = q
-
-question-le : (r : Reading) (l : SheetLine) → sheet.question r l ≤ 11
-unfolding sheet.question
-question-le r l =
-    pick-le (sheet.knownLine l) _ 3 11
-    (pick-le (sheet.allNumbers l) _ 4 11
-    (pick-le (sheet.roomLeft (r .table .used) l) _ 5 11
-    (pick-le (sheet.belongs (r .inside) l) _ 6 11
-    (pick-le (sheet.inRange (r .table .used) (sheet.last (r .table)) l) _ 7 11
-    (pick-le (sheet.newlyAccepting (sheet.last (r .table)) l) _ 8 11
-    (pick-le (sheet.plainStep (r .table .nodes) l) 0 9 11 (omega arith) (omega arith)) (omega arith)) (omega arith)) (omega arith)) (omega arith)) (omega arith)) (omega arith)
 
 -- each M line's number is at most n
 abbrev Marked : List ℕ → ℕ → Type 0
@@ -103,17 +91,18 @@ marked-added r k l m =
 finish-small : (r : Reading) (k : ℕ) → Marked (r .mlines) k → Small (sheet.finish r k) k
 unfolding sheet.finish
 finish-small r k m =
-    pick-small (ltb (sheet.wholeOf (r .table)) (r .table .used .automata)) _ _ k (record { number≤ = omega arith; line≤ = m (sheet.wholeOf (r .table)) })
-    (pick-small (r .inside) _ _ k (record { number≤ = omega arith; line≤ = omega arith }) (record { number≤ = omega arith; line≤ = omega arith }))
+    pick-small (ltb (sheet.wholeOf (r .table)) (r .table .used .automata)) _ _ k (record { number≤ = omega arith; line≤ = m (sheet.wholeOf (r .table)); field≤ = omega arith })
+    (pick-small (r .inside) _ _ k (record { number≤ = omega arith; line≤ = omega arith; field≤ = omega arith }) (record { number≤ = omega arith; line≤ = omega arith; field≤ = omega arith }))
 
 lines-small : (r : Reading) (k : ℕ) (ls : List (List ℕ)) (n : ℕ) → Marked (r .mlines) k → k + length ls ≤ n → Small (sheet.readLines r k ls) n
 unfolding sheet.readLines
-lines-small r k [] n m h = let s = finish-small r k m in record { number≤ = s .number≤; line≤ = omega (arith, s .line≤) }
+lines-small r k [] n m h = let s = finish-small r k m in record { number≤ = s .number≤; line≤ = omega (arith, s .line≤); field≤ = s .field≤ }
 lines-small r k (l ∷ ls) n m h =
     let x = sheet.parsed (fields l) in
-    pick-small (eqb (sheet.question r x) 0) (sheet.readLines (sheet.added r (k + 1) x) (k + 1) ls) (sheet.refused (sheet.question r x) (k + 1)) n
+    let q = question-right r x in
+    pick-small (eqb (sheet.question r x .number) 0) (sheet.readLines (sheet.added r (k + 1) x) (k + 1) ls) (sheet.refusedBy (sheet.question r x) (k + 1)) n
     (lines-small (sheet.added r (k + 1) x) (k + 1) ls n (marked-added r k x m) (omega arith))
-    (record { number≤ = question-le r x; line≤ = omega arith })
+    (record { number≤ = q .number≤; line≤ = omega arith; field≤ = q .field≤ })
 
 glue-length : (b : ℕ) (ls : List (List ℕ)) → length (glue b ls) ≤ suc (length ls)
 glue-length b [] = omega arith
@@ -138,8 +127,8 @@ sheet-small text = go (bool-cases (leb (length text) byteLimit))
         rw e
         (pick-small (endsInLF text) (sheet.readLines sheet.start 0 (lines text)) (sheet.refused 2 0) byteLimit
         (lines-small sheet.start 0 (lines text) byteLimit (marked-none automatonLimit 0) (omega (arith, lines-length text, leb-true (length text) byteLimit e)))
-        (record { number≤ = omega arith; line≤ = omega arith }))
-    go (inr e) = rw e (record { number≤ = omega arith; line≤ = omega arith })
+        (record { number≤ = omega arith; line≤ = omega arith; field≤ = omega arith }))
+    go (inr e) = rw e (record { number≤ = omega arith; line≤ = omega arith; field≤ = omega arith })
 
 -- The walk --------------------------------------------------------------------------------------------------------------------
 

@@ -1,26 +1,22 @@
--- The page's definitions in the terms of the code's tests: the rule as it was read, a walk not shown.
-use Prim.Native.Nat.{ℕ, zero, suc}
-use mathlib.Core.Path.{_≡_, refl}
+-- The page's definitions in the terms of the code's tests: a sheet as it was read, a walk not shown.
+use Prim.Native.Nat.{ℕ}
+use mathlib.Core.Path.{_≡_}
 use mathlib.Core.Logic.{_⊎_, inl, inr}
 use mathlib.Core.List.{List}
-use native.Mathlib.Omega.{arith}
-use borrow.Author.Tests.{ne-eqb}
-use Rattle.aldlf.specs.Constants.{entryLimit}
-use Rattle.aldlf.specs.declared.Table.{Table}
-use Rattle.joblog.specs.Log.{readLog}
-use Rattle.lines.specs.Lines.{refusalLine, noWalkLine}
-use Rattle.report.specs.Page.{refusedWalk, logPage, rulePage}
+use borrow.Author.Tests.{eq-eqb, ne-eqb}
+use Rattle.lines.specs.Lines.{refusalLine, sheetRefusalLine, noWalkLine}
+use Rattle.sheet.specs.declared.SheetAnswer.{SheetAnswer}
+use Rattle.report.specs.Page.{refusedWalk, rulePage, sheetPage}
 
--- the rule's refusal, or the log's page
-pub rule-refused : (number place : ℕ) (t : Table) (steps : List ℕ) → (number ≡ 0 → ⊥) → refusalLine number place ≡ rulePage number place t steps
-unfolding rulePage
-rule-refused zero place t steps z = absurd (z refl)
-rule-refused (suc q) place t steps z = refl
+-- a sheet as read: the line of its refusal, or the page by its table
+module _ (a : SheetAnswer) (steps : List ℕ) where
+  pub sheet-refused : (a .number ≡ 0 → ⊥) → sheetPage a steps ≡ sheetRefusalLine (a .number) (a .line) (a .field)
+  unfolding sheetPage
+  sheet-refused z = rw (ne-eqb (a .number) 0 z)
 
-pub rule-read : (number place : ℕ) (t : Table) (steps : List ℕ) → number ≡ 0 → logPage t (readLog steps entryLimit) ≡ rulePage number place t steps
-unfolding rulePage
-rule-read zero place t steps z = refl
-rule-read (suc q) place t steps z = absurd (omega arith)
+  pub sheet-read : a .number ≡ 0 → sheetPage a steps ≡ rulePage (a .table) steps
+  unfolding sheetPage
+  sheet-read z = rw (eq-eqb (a .number) 0 z)
 
 -- the line where no walk is shown
 pub refused-none : (number : ℕ) → (number ≡ 38) ⊎ (number ≡ 39) → noWalkLine ≡ refusedWalk number

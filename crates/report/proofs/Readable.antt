@@ -27,10 +27,10 @@ use Rattle.joblog.proofs.Answers.{Accepted, Sound, sound-log}
 use Rattle.walk.proofs.Questions.{shownBy, byRoom, refusal, outcome-38, outcome-walk}
 use Rattle.walk.proofs.Shown.{short}
 use Rattle.lines.specs.Lines.{verdictLines, walkLine, noWalkLine}
-use Rattle.report.specs.Page.{walkLimit, ruleOf, lentWords, refusedWalk, shownLine, walkPage, judgedPage, tablePage, logPage, pageOf}
+use Rattle.report.specs.Page.{walkLimit, ruleOf, lentWords, refusedWalk, shownLine, walkPage, judgedPage, tablePage, logPage, rulePage, pageOf}
 use Rattle.report.specs.Readable.{walkOrNone, readPage}
 use Rattle.report.proofs.Accepted.{sheet-accepted}
-use Rattle.report.proofs.Pages.{rule-read}
+use Rattle.report.proofs.Pages.{sheet-read}
 
 all-yes : (a b c : Bool) → a ≡ true → b ≡ true → c ≡ true → firstNo ((a, 31) ∷ (b, 32) ∷ (c, 33) ∷ []) ≡ 0
 all-yes a b c p q r = rw (p, q, r)
@@ -123,7 +123,8 @@ module _ (t : Table) (log : List ℕ) (given : wellFormed t ≡ true) (some-entr
       ∙ ap (λ (l : List ℕ). verdictLines (ruleOf t) (heldIn S log) (logWords S log) ++ l) walk-page
 
 -- a table that some sheet gives and a log that was read: the page is their verdicts and the rule's walk
-pub log-page-read : (t : Table) (steps log : List ℕ) → wellFormed t ≡ true → readLog steps entryLimit ≡ entries log → logPage t (readLog steps entryLimit) ≡ readPage t log
+pub log-page-read : (t : Table) (steps log : List ℕ) → wellFormed t ≡ true → readLog steps entryLimit ≡ entries log → rulePage t steps ≡ readPage t log
+unfolding rulePage
 log-page-read t steps log given e =
     let x : Accepted entryLimit log = subst (Sound entryLimit) e (sound-log steps entryLimit) in
     ap (logPage t) e ∙ table-page t log given (x .some) (x .limit)
@@ -133,4 +134,4 @@ pub read-page : (rules steps log : List ℕ) → readSheet rules .number ≡ 0 �
 unfolding pageOf
 read-page rules steps log z e =
     let t = readSheet rules .table in
-    sym (rule-read (readSheet rules .number) (readSheet rules .line) t steps z) ∙ log-page-read t steps log (read-well-formed rules t (sheet-accepted rules z)) e
+    sheet-read (readSheet rules) steps z ∙ log-page-read t steps log (read-well-formed rules t (sheet-accepted rules z)) e

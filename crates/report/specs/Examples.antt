@@ -17,13 +17,13 @@ abbrev pub AllPrint : List Example → Type 0
 AllPrint [] = Unit {0}
 AllPrint (e ∷ es) = (pageOf (e .rules) (e .steps) ≡ e .page) × AllPrint es
 
--- `M,1,0` `T`: a sheet whose page is the line of a refusal, 13 bytes
+-- `M,1,0` `T`: a sheet whose page is the line of a refusal, 15 bytes
 abbrev pub refusedRules : List ℕ
 refusedRules = 77 ∷ 44 ∷ 49 ∷ 44 ∷ 48 ∷ 10 ∷ 84 ∷ 10 ∷ []
 
--- `refused,10,1`
+-- `refused,10,1,0`
 abbrev pub refusedPage : List ℕ
-refusedPage = 114 ∷ 101 ∷ 102 ∷ 117 ∷ 115 ∷ 101 ∷ 100 ∷ 44 ∷ 49 ∷ 48 ∷ 44 ∷ 49 ∷ 10 ∷ []
+refusedPage = 114 ∷ 101 ∷ 102 ∷ 117 ∷ 115 ∷ 101 ∷ 100 ∷ 44 ∷ 49 ∷ 48 ∷ 44 ∷ 49 ∷ 44 ∷ 48 ∷ 10 ∷ []
 
 -- document 01's page, and one of each kind
 abbrev pub examples : List Example
@@ -75,7 +75,7 @@ AllAnswer (l ∷ ls) = (pageOutcome refusedRules [] (l .lent) ≡ l .answer) × 
 -- a byte to spare, none to spare, a byte too few
 abbrev pub lendings : List Lending
 lendings =
-    record { lent = replicate 14 7; answer = record { number = 0; count = 13; buffer = refusedPage ++ (7 ∷ []) } }
-    ∷ record { lent = replicate 13 7; answer = record { number = 0; count = 13; buffer = refusedPage } }
-    ∷ record { lent = replicate 12 7; answer = record { number = 44; count = 0; buffer = replicate 12 7 } }
+    record { lent = replicate 16 7; answer = record { number = 0; count = 15; buffer = refusedPage ++ (7 ∷ []) } }
+    ∷ record { lent = replicate 15 7; answer = record { number = 0; count = 15; buffer = refusedPage } }
+    ∷ record { lent = replicate 14 7; answer = record { number = 44; count = 0; buffer = replicate 14 7 } }
     ∷ []

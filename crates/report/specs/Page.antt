@@ -15,7 +15,7 @@ use Rattle.sheet.specs.Questions.{readSheet}
 use Rattle.sheet.specs.Given.{wellFormed}
 use Rattle.appending.specs.Placed.{Printed, placed}
 use Rattle.report.specs.declared.PageAnswer.{PageAnswer}
-use Rattle.lines.specs.Lines.{refusalLine, verdictLines, walkLine, noWalkLine}
+use Rattle.lines.specs.Lines.{refusalLine, sheetRefusalLine, verdictLines, walkLine, noWalkLine}
 
 -- the longest shortest walk: states times entries less one edges
 abbrev pub walkLimit : ℕ
@@ -67,17 +67,13 @@ abbrev pub logPage : Table → LogRead → List ℕ
 logPage t (entries log) = tablePage t log
 logPage t (refused number line) = refusalLine number line
 
--- the page by a rule as it was read, to a table or to a refusal that names a place, and a log
-unfoldable pub rulePage : (number place : ℕ) → Table → (steps : List ℕ) → List ℕ
-rulePage number place t steps =
-    elim number [
-      | zero ↦ logPage t (readLog steps entryLimit)
-      | suc q ↦ refusalLine (suc q) place
-    ]
+-- the page by a rule that was read to a table, and a log
+unfoldable pub rulePage : Table → (steps : List ℕ) → List ℕ
+rulePage t steps = logPage t (readLog steps entryLimit)
 
--- the page of a sheet as read and a log
-abbrev pub sheetPage : SheetAnswer → List ℕ → List ℕ
-sheetPage a steps = rulePage (a .number) (a .line) (a .table) steps
+-- the page of a sheet as read and a log: that of a refused sheet is the line of its refusal
+unfoldable pub sheetPage : SheetAnswer → List ℕ → List ℕ
+sheetPage a steps = cond (eqb (a .number) 0) (rulePage (a .table) steps) (sheetRefusalLine (a .number) (a .line) (a .field))
 
 -- the page of a sheet and a log
 unfoldable pub pageOf : (rules steps : List ℕ) → List ℕ

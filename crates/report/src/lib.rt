@@ -8,6 +8,7 @@ use judge::Judged;
 use judge::lent::judge_lent;
 use lines::put_no_walk;
 use lines::put_refusal;
+use lines::put_sheet_refusal;
 use lines::put_verdicts;
 use lines::put_walk;
 use packing::places::PLACES;
@@ -23,6 +24,7 @@ ghost use Rattle.aldlf.specs.declared.Table.{Table};
 ghost use Rattle.packing.specs.Packed.{Packed};
 ghost use Rattle.joblog.specs.Log.{readLog};
 ghost use Rattle.report.specs.Page.{ruleOf, refusedWalk, walkPage, tablePage, logPage, rulePage, printedOf, pageOutcome};
+ghost use Rattle.lines.specs.Lines.{sheetRefusalLine};
 ghost use Rattle.appending.specs.Appending.{Stored, Appends};
 ghost use Rattle.appending.specs.Placed.{placed};
 
@@ -34,6 +36,9 @@ const WALK: usize = aldlf::STATES * aldlf::ENTRIES - 1;
 
 // A buffer for a page that is to fit in fewer bytes: a short log's page costs no pass over BYTES places.
 const SHORT: usize = 1024;
+
+// No line of a refusal is longer.
+pub const LINE: usize = 22;
 
 // What printing a page answers. Number 0: the page was written, and `bytes` counts it. 44: the page is longer than the lent
 // buffer, which is left as it was lent; `bytes` is 0.
@@ -48,50 +53,61 @@ pub fn page(rules: &[u8], steps: &[u8], out: &mut [u8]) -> PageAnswer
     ensures { λ r. ⌜ printedOf r (now (out .exit)) ≡ pageOutcome (now (rules .entry)) (now (steps .entry)) (now (out .entry)) ⌝ }
 {
     let s = sheet::read_sheet(rules);
+    if s.number != 0 {
+        return refused_page(s.number, s.line, s.field, out);
+    }
     let t = s.table;
-    rule_page(s.number, s.line, t, steps, out)
+    rule_page(t, steps, out)
 }
 
-// The same by a rule as it was read, from whatever text: to a table, with number 0, or to a refusal that names a place.
-// A room of the checker: its other crates call it, users do not.
-pub fn rule_page(number: u8, place: u16, table: Table, steps: &[u8], out: &mut [u8]) -> PageAnswer
-    ensures { λ r. ⌜ printedOf r (now (out .exit)) ≡ placed 44 (rulePage number place table (now (steps .entry))) (now (out .entry)) ⌝ }
+// The page of a refused sheet, its one line by way of a buffer that takes every such line.
+fn refused_page(number: u8, line: u16, field: u8, out: &mut [u8]) -> PageAnswer
+    ensures { λ r. ⌜ printedOf r (now (out .exit)) ≡ placed 44 (sheetRefusalLine number line field) (now (out .entry)) ⌝ }
+{
+    let mut buffer = [0u8; LINE];
+    let n = put_sheet_refusal(&mut buffer, 0, number, line as usize, field);
+    hand_over(&buffer[..n], out)
+}
+
+// The page by a rule that was read to a table, from whatever text. A room of the checker: its other crates call it, users do not.
+pub fn rule_page(table: Table, steps: &[u8], out: &mut [u8]) -> PageAnswer
+    ensures { λ r. ⌜ printedOf r (now (out .exit)) ≡ placed 44 (rulePage table (now (steps .entry))) (now (out .entry)) ⌝ }
 {
     if BYTES <= out.len() {
-        let n = put_page(out, number, place, table, steps);
+        let n = put_page(out, table, steps);
         return PageAnswer {
             number: 0,
             bytes: n,
         };
     }
     if out.len() < SHORT {
-        return short_page(number, place, table, steps, out);
+        return short_page(table, steps, out);
     }
-    long_page(number, place, table, steps, out)
+    long_page(table, steps, out)
 }
 
 // By way of a buffer of SHORT bytes: of a page that does not fit there, more bytes are known than `out` has.
-fn short_page(number: u8, place: u16, table: Table, steps: &[u8], out: &mut [u8]) -> PageAnswer
+fn short_page(table: Table, steps: &[u8], out: &mut [u8]) -> PageAnswer
     requires { ⌜ length (now out) < 1024 ⌝ }
-    ensures { λ r. ⌜ printedOf r (now (out .exit)) ≡ placed 44 (rulePage number place table (now (steps .entry))) (now (out .entry)) ⌝ }
+    ensures { λ r. ⌜ printedOf r (now (out .exit)) ≡ placed 44 (rulePage table (now (steps .entry))) (now (out .entry)) ⌝ }
 {
     let mut buffer = [0u8; SHORT];
-    let n = put_page(&mut buffer, number, place, table, steps);
+    let n = put_page(&mut buffer, table, steps);
     hand_over(&buffer[..n], out)
 }
 
 // By way of a buffer that takes every page.
-fn long_page(number: u8, place: u16, table: Table, steps: &[u8], out: &mut [u8]) -> PageAnswer
+fn long_page(table: Table, steps: &[u8], out: &mut [u8]) -> PageAnswer
     requires { ⌜ length (now out) < 40000 ⌝ }
-    ensures { λ r. ⌜ printedOf r (now (out .exit)) ≡ placed 44 (rulePage number place table (now (steps .entry))) (now (out .entry)) ⌝ }
+    ensures { λ r. ⌜ printedOf r (now (out .exit)) ≡ placed 44 (rulePage table (now (steps .entry))) (now (out .entry)) ⌝ }
 {
     let mut buffer = [0u8; BYTES];
-    let n = put_page(&mut buffer, number, place, table, steps);
+    let n = put_page(&mut buffer, table, steps);
     hand_over(&buffer[..n], out)
 }
 
-// A page copied to `out`, or refused.
-fn hand_over(page: &[u8], out: &mut [u8]) -> PageAnswer
+// A page copied to `out`, or refused. A room of the checker, as above.
+pub fn hand_over(page: &[u8], out: &mut [u8]) -> PageAnswer
     ensures { λ r. ⌜ printedOf r (now (out .exit)) ≡ placed 44 (now (page .entry)) (now (out .entry)) ⌝ }
 {
     let n = page.len();
@@ -109,12 +125,9 @@ fn hand_over(page: &[u8], out: &mut [u8]) -> PageAnswer
 }
 
 // As many bytes of the page as fit in the first places of `out`, and how many those are.
-fn put_page(out: &mut [u8], number: u8, place: u16, table: Table, steps: &[u8]) -> usize
-    ensures { λ r. ⌜ Stored (rulePage number place table (now (steps .entry))) (now (out .entry)) (now (out .exit)) r ⌝ }
+fn put_page(out: &mut [u8], table: Table, steps: &[u8]) -> usize
+    ensures { λ r. ⌜ Stored (rulePage table (now (steps .entry))) (now (out .entry)) (now (out .exit)) r ⌝ }
 {
-    if number != 0 {
-        return put_refusal(out, 0, number, place as usize);
-    }
     let mut numbers = [0u32; PLACES];
     pack(table, &mut numbers);
     put_log_page(out, &numbers, steps)

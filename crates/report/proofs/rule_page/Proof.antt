@@ -19,8 +19,8 @@ returns c =
     let s = c .before .before .before .before .before .before .before in
     let a = s .args in
     let p = c .before .before .put-page in
-    let fits = rule-page-fits (a .number) (a .place) (a .table) (now (a .steps)) (omega arith) (omega arith) in
-    placed-stored 44 (rulePage (a .number) (a .place) (a .table) (now (a .steps))) (now (a .out)) (p .last .0) (p .result) (omega (arith, fits, c .before .before .before .before .if1 .taken)) (p .ensures)
+    let fits = rule-page-fits (a .table) (now (a .steps)) in
+    placed-stored 44 (rulePage (a .table) (now (a .steps))) (now (a .out)) (p .last .0) (p .result) (omega (arith, fits, c .before .before .before .before .if1 .taken)) (p .ensures)
 
 short-page-requires : tie.Need-short-page-requires
 short-page-requires c κs = search needs
