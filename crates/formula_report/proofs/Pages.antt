@@ -29,18 +29,28 @@ use Rattle.report.proofs.Printed.{printed-iff}
 use Rattle.report.proofs.Readable.{judged, words, log-page-read}
 use Rattle.formula_report.specs.FormulaPage.{readFormulaPage, formulaPageOf}
 
+-- a formula as read: the line of its refusal, or the page by its table
+module _ (a : FormulaAnswer) (steps : List ℕ) where
+  pub read-refused : (a .number ≡ 0 → ⊥) → readFormulaPage a steps ≡ refusalLine (a .number) (a .place)
+  unfolding readFormulaPage
+  read-refused z = rw (ne-eqb (a .number) 0 z)
+
+  pub read-accepted : a .number ≡ 0 → readFormulaPage a steps ≡ rulePage (a .table) steps
+  unfolding readFormulaPage
+  read-accepted z = rw (eq-eqb (a .number) 0 z)
+
 module _ (rule steps : List ℕ) where
   abbrev f : FormulaAnswer
   f = formulaAnswer rule
 
   -- a refused formula: the log is not looked at
   pub formula-refused : (f .number ≡ 0 → ⊥) → formulaPageOf rule steps ≡ refusalLine (f .number) (f .place)
-  unfolding formulaPageOf readFormulaPage
-  formula-refused z = rw (ne-eqb (f .number) 0 z)
+  unfolding formulaPageOf
+  formula-refused = read-refused f steps
 
   pub formula-read : f .number ≡ 0 → formulaPageOf rule steps ≡ rulePage (f .table) steps
-  unfolding formulaPageOf readFormulaPage
-  formula-read z = rw (eq-eqb (f .number) 0 z)
+  unfolding formulaPageOf
+  formula-read = read-accepted f steps
 
   -- a sheet that reads to the formula's table has the same page
   pub sheet-same : (rules : List ℕ) → f .number ≡ 0 → readSheet rules .number ≡ 0 → readSheet rules .table ≡ f .table → pageOf rules steps ≡ formulaPageOf rule steps
