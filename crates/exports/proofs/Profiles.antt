@@ -34,11 +34,11 @@ module _ (table out : List ℕ) where
   unfolding profileMade
   left e = ⊎-elim
       (λ (h : length out ≡ tableSize).
-      let is = long-is tableSize out (tableInto out q 0 (profileOutcome t .table)) h in
+      let is = long-is tableSize out (tableInto out q 0 0 (profileOutcome t .table)) h in
       let z = number-0 q (sym (ap (λ (o : Outcome). o .answer) is) ∙ e) in
       (z, ap (λ (o : Outcome). o .slice) is ∙ ap (λ (b : Bool). cond b (tableNumbers (profileOutcome t .table)) out) (eq-eqb q 0 z)))
       (λ h.
-      let w : _≡_ {A = ℕ} 35 0 = number-0 35 (ap (λ (o : Outcome). o .answer) (short-is tableSize out (tableInto out q 0 (profileOutcome t .table)) (refusal 35) h refl) ∙ e) in
+      let w : _≡_ {A = ℕ} 35 0 = number-0 35 (ap (λ (o : Outcome). o .answer) (short-is tableSize out (tableInto out q 0 0 (profileOutcome t .table)) (refusal 35) h refl) ∙ e) in
       absurd (omega arith))
       (same (length out) tableSize)
 
