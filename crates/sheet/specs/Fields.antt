@@ -21,8 +21,8 @@ addedAll r k (l ∷ ls) = addedAll (added r (k + 1) (parsed (fields l))) (k + 1)
 abbrev pub readBefore : List ℕ → ℕ → Reading
 readBefore text k = addedAll start 0 (take (k - 1) (lines text))
 
-abbrev pub lineAt : List ℕ → ℕ → Line
-lineAt text k = parsed (fields (getD (lines text) (k - 1) []))
+abbrev pub numberedLine : List ℕ → ℕ → Line
+numberedLine text k = parsed (fields (getD (lines text) (k - 1) []))
 
 -- What field f of a line has to be, the letter being field 1, and whether it is.
 abbrev pub kindAt : Line → ℕ → ℕ
@@ -43,4 +43,4 @@ pub record Leftmost (r : Reading) (l : Line) (n f : ℕ) : Type 0 where
 pub record FieldRight (text : List ℕ) (a : SheetAnswer) : Type 0 where
   pub never-7 : a .number ≡ 7 → ⊥
   pub no-field : (a .number < aFact) ⊎ (aCount < a .number) → a .field ≡ 0
-  pub leftmost : aFact ≤ a .number → a .number ≤ aCount → Leftmost (readBefore text (a .line)) (lineAt text (a .line)) (a .number) (a .field)
+  pub leftmost : aFact ≤ a .number → a .number ≤ aCount → Leftmost (readBefore text (a .line)) (numberedLine text (a .line)) (a .number) (a .field)
