@@ -129,15 +129,13 @@ fn line(s: &[u8], p: usize) -> Result<(u8, [u32; 4], usize), u8> {
     Ok((letter, numbers, end + 1))
 }
 
-/// Questions 71 to 76 of a line's numbers, each with the question about it: the number of the leftmost that gets a no, and its field.
-#[inline(always)]
-fn in_range<const N: usize>(numbers: [(bool, u8); N]) -> Result<(), (u8, u8)> {
-    for (i, (fits, question)) in numbers.into_iter().enumerate() {
-        if !fits {
-            return Err((question, i as u8 + 2));
-        }
-    }
-    Ok(())
+/// Of a line's numbers, each with the question about it, one is out of range: the number of the leftmost, and its field, in one. Away from the way
+/// of a sheet that is read.
+#[cold]
+#[inline(never)]
+fn leftmost(numbers: &[(bool, u16)]) -> u16 {
+    let i = numbers.iter().position(|(fits, _)| !fits).unwrap();
+    numbers[i].1 + 256 * (i as u16 + 2)
 }
 
 /// The table so far, and what the questions ask of the lines so far.
@@ -182,16 +180,16 @@ pub fn sheet(s: &[u8], out: &mut [u16; TABLE]) -> Result<(), SheetNo> {
         k += 1;
         let (letter, numbers, next) = line(s, p).map_err(|number| (number, k, 0))?;
         p = next;
-        reading.add(letter, numbers, k).map_err(|(number, field)| (number, k, field))?;
+        reading.add(letter, numbers, k).map_err(|no| (no as u8, k, (no >> 8) as u8))?;
     }
     *out = reading.whole(k)?;
     Ok(())
 }
 
 impl Reading {
-    /// Questions 5, 6, 71 to 76, 8 and 9 of a line, and the table with it.
+    /// Questions 5, 6, 71 to 76, 8 and 9 of a line, and the table with it; a refusal's number, and from bit 8 on its field.
     #[inline(always)]
-    fn add(&mut self, letter: u8, numbers: [u32; 4], k: u32) -> Result<(), (u8, u8)> {
+    fn add(&mut self, letter: u8, numbers: [u32; 4], k: u32) -> Result<(), u16> {
         match letter {
             b'E' => self.edge(numbers),
             b'G' => self.accept(numbers[0]),
@@ -201,16 +199,18 @@ impl Reading {
     }
 
     #[inline(always)]
-    fn edge(&mut self, [from, dir, test, to]: [u32; 4]) -> Result<(), (u8, u8)> {
+    fn edge(&mut self, [from, dir, test, to]: [u32; 4]) -> Result<(), u16> {
         if self.edges == 256 {
-            return Err((5, 0));
+            return Err(5);
         }
         if !self.inside {
-            return Err((6, 0));
+            return Err(6);
         }
-        in_range([(from < self.states, 74), (dir <= 2, 75), (test < self.nodes as u32, 72), (to < self.states, 74)])?;
+        if from >= self.states || dir > 2 || test >= self.nodes as u32 || to >= self.states {
+            return Err(leftmost(&[(from < self.states, 74), (dir <= 2, 75), (test < self.nodes as u32, 72), (to < self.states, 74)]));
+        }
         if dir > 0 && self.plain >> (test & 127) & 1 == 0 {
-            return Err((9, 0));
+            return Err(9);
         }
         let (at, m) = (EDGES_AT + 4 * self.edges, (self.automata - 1) & 15);
         self.table[at..at + 4].copy_from_slice(&[from as u16, dir as u16, test as u16, to as u16]);
@@ -221,13 +221,15 @@ impl Reading {
     }
 
     #[inline(always)]
-    fn accept(&mut self, state: u32) -> Result<(), (u8, u8)> {
+    fn accept(&mut self, state: u32) -> Result<(), u16> {
         if !self.inside {
-            return Err((6, 0));
+            return Err(6);
         }
-        in_range([(state < self.states, 74)])?;
+        if state >= self.states {
+            return Err(leftmost(&[(false, 74)]));
+        }
         if self.accepting >> (state & 31) & 1 == 1 {
-            return Err((8, 0));
+            return Err(8);
         }
         self.accepting |= 1 << (state & 31);
         self.table[AUTOMATA_AT + 6 * ((self.automata - 1) & 15) + 2] = self.accepting as u16;
@@ -235,11 +237,13 @@ impl Reading {
     }
 
     #[inline(always)]
-    fn automaton(&mut self, states: u32, start: u32, k: u32) -> Result<(), (u8, u8)> {
+    fn automaton(&mut self, states: u32, start: u32, k: u32) -> Result<(), u16> {
         if self.automata == 16 {
-            return Err((5, 0));
+            return Err(5);
         }
-        in_range([(states.wrapping_sub(1) <= 15, 76), (start < states, 74)])?;
+        if states.wrapping_sub(1) > 15 || start >= states {
+            return Err(leftmost(&[(states.wrapping_sub(1) <= 15, 76), (start < states, 74)]));
+        }
         let at = AUTOMATA_AT + 6 * self.automata;
         self.table[at..at + 6].copy_from_slice(&[states as u16, start as u16, 0, self.edges as u16, 0, self.nodes as u16]);
         self.lines[self.automata] = k;
@@ -249,19 +253,26 @@ impl Reading {
     }
 
     #[inline(always)]
-    fn node(&mut self, letter: u8, a: u32, b: u32) -> Result<(), (u8, u8)> {
+    fn node(&mut self, letter: u8, a: u32, b: u32) -> Result<(), u16> {
         if self.nodes == NODES {
-            return Err((5, 0));
+            return Err(5);
         }
         let n = self.nodes as u32;
         let (fits, is_plain) = match letter {
-            b'T' | b'F' => (Ok(()), true),
-            b'P' => (in_range([(a < 32, 71)]), true),
-            b'N' => (in_range([(a < n, 72)]), self.plain >> (a & 127) & 1 == 1),
-            b'A' | b'O' => (in_range([(a < n, 72), (b < n, 72)]), self.plain >> (a & 127) & self.plain >> (b & 127) & 1 == 1),
-            _ => (in_range([((a as usize) < self.automata, 73), (b < n, 72)]), false),
+            b'T' | b'F' => (true, true),
+            b'P' => (a < 32, true),
+            b'N' => (a < n, self.plain >> (a & 127) & 1 == 1),
+            b'A' | b'O' => (a < n && b < n, self.plain >> (a & 127) & self.plain >> (b & 127) & 1 == 1),
+            _ => ((a as usize) < self.automata && b < n, false),
         };
-        fits?;
+        if !fits {
+            let first = match letter {
+                b'P' => (a < 32, 71),
+                b'D' | b'B' => ((a as usize) < self.automata, 73),
+                _ => (a < n, 72),
+            };
+            return Err(leftmost(&[first, (b < n, 72)]));
+        }
         self.plain |= (is_plain as u128) << n;
         let at = 3 * self.nodes;
         self.table[at..at + 3].copy_from_slice(&[letter as u16, a as u16, b as u16]);
