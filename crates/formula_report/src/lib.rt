@@ -26,7 +26,7 @@ pub fn formula_page(rule: &[u8], steps: &[u8], out: &mut [u8]) -> PageAnswer
 fn refused_page(number: u8, place: u16, out: &mut [u8]) -> PageAnswer
     ensures { λ r. ⌜ printedOf r (now (out .exit)) ≡ placed 44 (refusalLine number place) (now (out .entry)) ⌝ }
 {
-    let mut buffer = [0u8; report::LINE];
+    let mut buffer = [0u8; report::REFUSAL];
     let n = put_refusal(&mut buffer, 0, number, place as usize);
     hand_over(&buffer[..n], out)
 }

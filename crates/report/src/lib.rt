@@ -37,8 +37,8 @@ const WALK: usize = aldlf::STATES * aldlf::ENTRIES - 1;
 // A buffer for a page that is to fit in fewer bytes: a short log's page costs no pass over BYTES places.
 const SHORT: usize = 1024;
 
-// No line of a refusal is longer.
-pub const LINE: usize = 22;
+// No line of a refused sheet or formula has more bytes.
+pub const REFUSAL: usize = 22;
 
 // What printing a page answers. Number 0: the page was written, and `bytes` counts it. 44: the page is longer than the lent
 // buffer, which is left as it was lent; `bytes` is 0.
@@ -64,7 +64,7 @@ pub fn page(rules: &[u8], steps: &[u8], out: &mut [u8]) -> PageAnswer
 fn refused_page(number: u8, line: u16, field: u8, out: &mut [u8]) -> PageAnswer
     ensures { λ r. ⌜ printedOf r (now (out .exit)) ≡ placed 44 (sheetRefusalLine number line field) (now (out .entry)) ⌝ }
 {
-    let mut buffer = [0u8; LINE];
+    let mut buffer = [0u8; REFUSAL];
     let n = put_sheet_refusal(&mut buffer, 0, number, line as usize, field);
     hand_over(&buffer[..n], out)
 }
