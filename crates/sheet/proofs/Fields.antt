@@ -1,6 +1,6 @@
 -- The field beside a sheet's refusal: 7 never occurs, the field is 0 except beside 71 to 76, and there the leftmost that is out of range. By the order of the questions, then by induction over the lines.
-use Prim.Native.Nat.{ℕ, zero, suc, _+_, _-_, _≤_, _<_}
-use mathlib.Core.Path.{_≡_, refl, ap, sym, subst, _∙_}
+use Prim.Native.Nat.{ℕ, suc, _+_, _-_, _≤_, _<_}
+use mathlib.Core.Path.{_≡_, refl, ap, subst, _∙_}
 use mathlib.Core.Logic.{_⊎_, ⊎-elim}
 use mathlib.Core.List.{List, [], _∷_}
 use mathlib.Core.Bool.{Bool, true, false, cond}
@@ -15,7 +15,7 @@ use Rattle.sheet.specs.declared.ranges.Stop.{Stop}
 use Rattle.sheet.specs.declared.SheetAnswer.{SheetAnswer}
 use Rattle.sheet.specs.Ranges.{aFact, aCount, isOfKind, kinds, numbersOf, stopAt, goesOn, outOfRange}
 use Rattle.sheet.specs.Questions.{parsed, knownLine, allNumbers, roomLeft, belongs, last, newlyAccepting, plainStep, question, added, start, refusedBy, refused, wholeOf, finish, readLines, readSheet}
-use Rattle.sheet.specs.Fields.{addedAll, fitsAt, Leftmost, FieldRight}
+use Rattle.sheet.specs.Fields.{addedAll, Leftmost, FieldRight}
 use Rattle.sheet.proofs.InRange.{LineStops, out-of-range, stops-named}
 
 -- at one line: what a stop says

@@ -15,7 +15,7 @@ use Rattle.text.proofs.PaddedLength.{padded-length}
 use Rattle.text.proofs.Padded.{field-number, paired-length}
 use Rattle.sheet.specs.declared.build.Reading.{Reading}
 use Rattle.sheet.specs.Ranges.{stopAt}
-use Rattle.sheet.specs.Questions.{letterOf, parsed, arity, knownLine, question, added, start, refusedBy, refused, readLines, readSheet}
+use Rattle.sheet.specs.Questions.{letterOf, parsed, arity, knownLine, question, added, start, refusedBy, readLines, readSheet}
 use Rattle.sheet.proofs.Letters.{arity-other}
 
 -- each field is the same number
