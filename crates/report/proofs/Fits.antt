@@ -1,5 +1,5 @@
 -- Every page is at most 40,000 bytes long: at most 512 lines of 6 bytes, a line for the rule, and a walk of at most 8,191 edges of at most 4 bytes.
-use Prim.Native.Nat.{ℕ, zero, suc, _*_, _≤_}
+use Prim.Native.Nat.{ℕ, zero, suc, _*_, _≤_, _<_}
 use mathlib.Core.Path.{_≡_, refl, ap, sym, _∙_}
 use mathlib.Core.Logic.{⊎-elim}
 use mathlib.Core.Bool.{Bool, true, false, cond, _||_}
