@@ -1,5 +1,7 @@
 // Appending to a lent buffer: what does not fit is left out, and the rest of the buffer keeps its content.
 // A room of the checker: called by its other crates, not by users.
+#![tactic(auto)]
+
 ghost use Rattle.std.specs.Prelude.{[], ◌∷◌};
 ghost use Rattle.appending.specs.Appending.{decimal, Appends};
 

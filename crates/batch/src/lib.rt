@@ -1,5 +1,7 @@
 // Judging a list of logs of one sheet in one call. Every question is asked before the first log is judged. That each log is judged
 // as by itself is the theorem `each_judged` of proofs/Each.antt.
+#![tactic(auto)]
+
 mod logs;
 mod questions;
 
@@ -19,7 +21,7 @@ use questions::asked;
 
 // What judging a list answers. Number 0: every log is judged. Else the number of the first question that gets a no (31, 32, 33),
 // and which log it is about, counted from 1 (0: about no log).
-#[derive(Drop)]
+#[derive(Clone, Copy)]
 pub struct BatchAnswer {
     pub number: u8,
     pub log: usize,

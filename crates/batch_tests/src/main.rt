@@ -1,6 +1,8 @@
 // Lists of logs judged. `stdin` has the cases, one line each: the case's name, the sheet, the words of all logs, how many words are
 // lent, the logs' lengths, how many places are lent for verdicts and for counts, and from which place on the verdicts are shown.
 // `stdout` has what document 01 gives, worked by hand.
+#![tactic(auto)]
+
 mod calls;
 mod show;
 

@@ -1,4 +1,6 @@
 // What the test programs share: cases that stand in a file, one to a line, their fields parted by `|`; and how tables are printed.
+#![tactic(auto)]
+
 pub mod sheets;
 pub mod show;
 pub mod zeros;

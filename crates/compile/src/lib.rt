@@ -1,4 +1,6 @@
 // A formula's text, as people write rules, to the table of its sheet (document 02, S-7).
+#![tactic(auto)]
+
 ghost use Rattle.std.specs.Prelude.{◌≡◌, min};
 ghost use Rattle.formula.specs.Outcome.{refused};
 ghost use Rattle.parsing.specs.Written.{code_limit};
@@ -10,7 +12,7 @@ use sheet::empty::empty_table;
 
 // What a formula's text reads to. Number 0: the table of its sheet, and place 0. Else the refusal's number, 50; 51 with the place of the
 // first byte at which no formula can go on; 52; 54; 53; and a table all zeros.
-#[derive(Drop)]
+#[derive(Clone, Copy)]
 pub struct FormulaAnswer {
     pub number: u8,
     pub place: u16,

@@ -1,5 +1,7 @@
 // The calls for C and Rust: numbers and slices. Each answers one number (specs/Answers.antt, `answer_code`; a list of logs:
 // specs/Lists.antt, `list_code`; a length: specs/RuleTexts.antt, `length_code`); a table crosses as 1,507 numbers and a row as 128 (crossing's specs/Numbers.antt).
+#![tactic(auto)]
+
 mod answer;
 mod formulas;
 mod rules;

@@ -1,18 +1,20 @@
 // Reading files whole, for the programs. A read that fails is told from the end of the file, so that a torn text is never taken for a whole one.
 // A room of the checker: its programs call it, users do not.
+#![tactic(auto)]
+
 ghost use Rattle.std.specs.Prelude.{◌-◌, ◌≤◌, length};
 ghost use Rattle.io.specs.Counts.{IsPrefixLen};
 ghost use Rattle.files.specs.Content.{Within};
 
 // What came of a file: so many bytes, or a failure, which was said on standard error.
-#[derive(Drop)]
+#[derive(Clone, Copy)]
 enum Content {
     Bytes(usize),
     Failed,
 }
 
 // What came of two files: whether both were read, and how many bytes of each; none where one failed, which was said on standard error.
-#[derive(Drop)]
+#[derive(Clone, Copy)]
 pub struct Contents {
     pub read: bool,
     pub first: usize,

@@ -1,5 +1,7 @@
 // Prints the page of the formula `rule.txt` and the log `steps.txt` in the folder that it runs in, once both have been read to their ends.
 // A failure to read or to write is one line on standard error.
+#![tactic(auto)]
+
 ghost use Rattle.std.specs.Prelude.{◌≡◌};
 ghost use Rattle.formula_page.specs.Rule.{formula_bytes};
 

@@ -1,4 +1,6 @@
 // The printed page by a rule that is one line of text: the formula is read, then its sheet's page is printed as any sheet's.
+#![tactic(auto)]
+
 ghost use Rattle.std.specs.Prelude.{◌≡◌};
 ghost use Rattle.appending.specs.Placed.{placed};
 ghost use Rattle.lines.specs.Lines.{refusal_line};

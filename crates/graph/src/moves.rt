@@ -11,7 +11,7 @@ use aldlf::{Edge, Entry, State};
 pub const FAR: u16 = 65535;
 
 // A configuration by its two numbers.
-#[derive(Drop)]
+#[derive(Clone, Copy)]
 pub struct Configuration {
     pub state: State,
     pub entry: Entry,

@@ -8,11 +8,11 @@ use aldlf::Entry;
 pub(crate) const COUNTERS: u32 = 65536;
 
 // A platesetter's step counter, 0 to 65,535; after 65,535 comes 0 again.
-#[derive(Drop)]
+#[derive(Clone, Copy)]
 pub struct Counter(pub u16);
 
 // The entry that bears a counter; or the number of the question that got a no.
-#[derive(Drop)]
+#[derive(Clone, Copy)]
 pub enum Found {
     At(Entry),
     Refused(u8),

@@ -8,11 +8,11 @@ use super::counters::{COUNTERS, Counter, counter_at, next_counter};
 use super::facts::{facts_of, question_of, word_of};
 
 // The counter due at a line; COUNTERS before the first, where any may come.
-#[derive(Drop)]
+#[derive(Clone, Copy)]
 pub struct Due(pub u32);
 
 // What a line is asked: the number of the question that gets a no (else 0), and the counter due after it.
-#[derive(Drop)]
+#[derive(Clone, Copy)]
 pub struct Asked {
     pub number: u8,
     pub due: Due,

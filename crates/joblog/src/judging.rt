@@ -9,7 +9,7 @@ use super::reader::{LineReader, after_line, reader_at};
 
 // A log judged so far: whether more lines are asked for, how many were read, and once one got a no its question (else 0) and line.
 // Its lines have counters or not; `due` is the counter due next.
-#[derive(Drop)]
+#[derive(Clone, Copy)]
 pub struct Judged {
     pub more: bool,
     pub count: usize,

@@ -1,4 +1,6 @@
 // Reading job logs, without or with the platesetter's counter: questions 21 to 29, and the words of the entries.
+#![tactic(auto)]
+
 ghost use Rattle.std.specs.Prelude.{◌≡◌, ◌≤◌, ◌++◌, length, drop};
 ghost use Rattle.text.specs.Text.{lines};
 ghost use Rattle.joblog.specs.Log.{answer_of, outcome_of, read_outcome};
@@ -12,14 +14,14 @@ mod judging;
 pub mod reader;
 
 // How many entries were read; or the number of the question that got a no, and its line.
-#[derive(Drop)]
+#[derive(Clone, Copy)]
 pub enum LogAnswer {
     Read(usize),
     Refused(u8, usize),
 }
 
 // How many entries were read, and the first counter; or the number of the question that got a no, and its line.
-#[derive(Drop)]
+#[derive(Clone, Copy)]
 pub enum CountedAnswer {
     Read(usize, counters::Counter),
     Refused(u8, usize),

@@ -2,6 +2,8 @@
 // A line's first two fields are the call's letter and the case's name. `l` and `c` read a log of the first and of the second form: its text, how many
 // words are lent, all 7 before the call, and from which one they are shown. `s` counts the steps from one counter to another. `e` finds an entry: the
 // first counter, the number of entries, and the counter.
+#![tactic(auto)]
+
 mod counters;
 
 ghost use Rattle.std.specs.Prelude.{◌≤◌};

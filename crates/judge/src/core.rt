@@ -15,14 +15,14 @@ use packing::places::{automaton_at, line_at, used_in};
 const FEW: usize = 32;
 
 // A log or a part to judge, beside the table: the way that parts are cut, and the row of the entry beside it.
-#[derive(Drop)]
+#[derive(Clone, Copy)]
 pub(crate) struct Part {
     pub(crate) way: Way,
     pub(crate) row: Row,
 }
 
 // The row that a part gives, and at how many entries the last node holds.
-#[derive(Drop)]
+#[derive(Clone, Copy)]
 pub(crate) struct CoreAnswer {
     pub(crate) row: Row,
     pub(crate) held: usize,

@@ -17,7 +17,7 @@ use reach::Goal;
 
 // A node to judge: its number and line, the automaton that its line names if it is a D or B, its number in the row that is
 // given, and the way that parts are cut.
-#[derive(Drop)]
+#[derive(Clone, Copy)]
 pub(crate) struct Job {
     pub(crate) number: Node,
     pub(crate) line: NodeLine,
@@ -27,14 +27,14 @@ pub(crate) struct Job {
 }
 
 // A node's number in the row that the part gives, and at how many entries it holds.
-#[derive(Drop)]
+#[derive(Clone, Copy)]
 pub(crate) struct NodeAnswer {
     pub(crate) number: u16,
     pub(crate) held: usize,
 }
 
 // The automaton whose steps are at hand, 16 for none, and which ways its edges go.
-#[derive(Drop)]
+#[derive(Clone, Copy)]
 pub(crate) struct Have {
     pub(crate) automaton: u8,
     pub(crate) looks: u16,

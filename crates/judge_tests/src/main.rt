@@ -1,5 +1,7 @@
 // Logs and parts judged. `stdin` has the cases, one line each: the call, the case's name, the sheet, the log, how many places are
 // lent and from which place on they are shown. `stdout` has what document 01 gives, worked by hand.
+#![tactic(auto)]
+
 mod calls;
 mod show;
 

@@ -1,5 +1,7 @@
 // The lines of the page, each appended to the buffer from a place on; the place after it is the answer.
 // A room of the checker: called by its other crates, not by users.
+#![tactic(auto)]
+
 ghost use Rattle.std.specs.Prelude.{◌≡◌, length};
 ghost use Rattle.lines.specs.Lines.{refused_at, refusal_line, sheet_refusal_line, entries_in, verdict_digit, entry_line, entries_below, rule_line, verdict_lines, edges_below, walk_line, no_walk_line};
 ghost use Rattle.appending.specs.Appending.{Appends};

@@ -6,7 +6,7 @@ use aldlf::State;
 
 // `links` edges of open paths, outer ones first, of which `base` belong to outer paths; `states` of the path in hand, and where its part made last starts and ends.
 // `top` numbers are on the stack. `over`: a sheet limit is passed, and the rest means nothing.
-#[derive(Drop)]
+#[derive(Clone, Copy)]
 pub(crate) struct Counts {
     pub(crate) nodes: u8,
     pub(crate) automata: u8,

@@ -67,7 +67,7 @@ fn put_link(links: &mut [u32; aldlf::EDGES], c: Counts, e: Edge) -> Counts
 }
 
 // Four links, in the order in which they are put.
-#[derive(Drop)]
+#[derive(Clone, Copy)]
 pub(crate) struct Four {
     pub(crate) e: Edge,
     pub(crate) f: Edge,

@@ -92,7 +92,7 @@ fn resumed(c: Counts, frame: Kept, top: usize) -> Counts
 }
 
 // The counts, and the automaton to be put at its place.
-#[derive(Drop)]
+#[derive(Clone, Copy)]
 pub(crate) struct Ended {
     pub(crate) counts: Counts,
     pub(crate) automaton: Automaton,

@@ -1,4 +1,6 @@
 // From the instructions of a formula to the table of its sheet. A room of the checker: its other crates call it, users do not.
+#![tactic(auto)]
+
 mod counts;
 mod drawing;
 mod ending;
@@ -20,7 +22,7 @@ const SHORT: usize = 256;
 const LONG: usize = 8192;
 
 // What the instructions come to: the table of the sheet, or that a sheet limit is passed, and then a table all zeros.
-#[derive(Drop)]
+#[derive(Clone, Copy)]
 pub struct Making {
     pub fits: bool,
     pub table: Table,

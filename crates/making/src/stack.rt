@@ -7,7 +7,7 @@ use aldlf::{Edge, Node, State};
 use packing::pieces::{edge_in, packed_edge};
 
 // A node (a); a letter and an automaton (a, b); the ends of a part (a, b); or an outer path's ends, states and base.
-#[derive(Drop)]
+#[derive(Clone, Copy)]
 pub(crate) struct Kept {
     pub(crate) a: u8,
     pub(crate) b: u8,

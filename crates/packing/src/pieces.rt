@@ -5,7 +5,7 @@ ghost use Rattle.packing.specs.Numbers.{packed_of, edge_in, line_in, automaton_i
 use aldlf::{Automaton, Edge, Node, NodeLine, State};
 
 // The three numbers of an automaton: its states, start and accepting states; its edges; the nodes above it.
-#[derive(Drop)]
+#[derive(Clone, Copy)]
 pub(crate) struct Head {
     pub(crate) states: u32,
     pub(crate) range: u32,

@@ -1,5 +1,7 @@
 // Prints the page of the sheet `rules.txt` and the log `steps.txt` in the folder that it runs in, once both have been read to their ends.
 // A failure to read or to write is one line on standard error.
+#![tactic(auto)]
+
 use files::read_two;
 use libc::STDOUT_FILENO;
 

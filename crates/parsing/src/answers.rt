@@ -8,7 +8,7 @@ use super::writing::Writing;
 
 // Number 0: what was read ends before `at`, and the rest is as in `Writing`. 51: no formula goes on at `at`. 52: the mark before `at` is
 // too deep. Plain fields: a struct within a struct is copied as a block, which is slow to hand on.
-#[derive(Drop)]
+#[derive(Clone, Copy)]
 pub(crate) struct Parse {
     pub(crate) number: usize,
     pub(crate) at: usize,

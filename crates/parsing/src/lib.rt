@@ -1,5 +1,7 @@
 // A formula's text to the list of instructions that its sheet is made from (document 02, S-7): refusals 50, 51, 52 and 54.
 // A room of the checker: its other crates call it, users do not (they call `compile`).
+#![tactic(auto)]
+
 mod answers;
 mod parse;
 mod signs;
@@ -21,7 +23,7 @@ const LEVELS: u8 = formula::DEPTH as u8 + 1;
 
 // What a text reads to. Number 0: a formula, whose instructions are the first `length` of the lent ones. Else the refusal's number, 50,
 // 51 with its place, 52 or 54, and what was lent holds anything.
-#[derive(Drop)]
+#[derive(Clone, Copy)]
 pub struct Written {
     pub number: u8,
     pub place: u16,

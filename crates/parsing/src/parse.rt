@@ -14,7 +14,7 @@ use super::signs::{
 use super::writing::{Writing, masked_at, write, write_end, write_if, write_prefixes, write_step};
 
 // The operators of a chain: the one that binds first, the other, and the instruction that keeps a left side.
-#[derive(Drop)]
+#[derive(Clone, Copy)]
 pub(crate) struct Operators {
     pub(crate) first: u8,
     pub(crate) second: u8,
@@ -22,14 +22,14 @@ pub(crate) struct Operators {
 }
 
 // Whether a left side waits for the operator that binds first, and whether one waits for the other.
-#[derive(Drop)]
+#[derive(Clone, Copy)]
 pub(crate) struct Waiting {
     pub(crate) first: bool,
     pub(crate) second: bool,
 }
 
 // The chain after an item: whether it goes on, and what waits then.
-#[derive(Drop)]
+#[derive(Clone, Copy)]
 pub(crate) struct Next {
     pub(crate) more: bool,
     pub(crate) waiting: Waiting,

@@ -4,7 +4,7 @@ ghost use Rattle.parsing.specs.Work.{is_set, work_of, put, put_if, masked, ended
 
 // How many instructions are written; whether a path mark was read since the innermost `{`; whether one stood within an ahead or back step.
 // The two marks are 0 or 1 in whole words: a struct with padding is slow to hand on from call to call.
-#[derive(Drop)]
+#[derive(Clone, Copy)]
 pub(crate) struct Writing {
     pub(crate) length: usize,
     pub(crate) modal: usize,

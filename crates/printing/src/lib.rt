@@ -1,4 +1,6 @@
 // The rule of a sheet as text (document 02, S-7): each node in full brackets, automata as `m` and their number, down to the facts.
+#![tactic(auto)]
+
 pub mod lent;
 mod measuring;
 mod pieces;
@@ -16,7 +18,7 @@ use packing::writing::pack;
 
 // What printing a rule answers. Number 0: the text was written, and `bytes` counts it. Else 31 or 55; `bytes` is 0, and nothing was
 // altered.
-#[derive(Drop)]
+#[derive(Clone, Copy)]
 pub struct RuleAnswer {
     pub number: u8,
     pub bytes: usize,

@@ -1,6 +1,8 @@
 // Rules printed. `stdin` has the cases, one line each: the case's name, the sheet, and how many places are lent. `stdout` has what
 // document 02 gives, worked by hand: the number, the length, and all places that were lent. Before the call they hold `.`, which
 // stands in no text.
+#![tactic(auto)]
+
 use aldlf::Table;
 
 // No case lends more places.

@@ -1,4 +1,6 @@
 // The plain profile (document 02, S-4): from a sheet's table one in which N stands directly on facts, and whether a sheet is in it.
+#![tactic(auto)]
+
 mod automata;
 mod checking;
 pub mod lent;
@@ -13,14 +15,14 @@ use packing::places::PLACES;
 use packing::writing::pack;
 
 // Number 0: the table in the profile. Else 31 or 42, and a table all zeros.
-#[derive(Drop)]
+#[derive(Clone, Copy)]
 pub struct ProfileAnswer {
     pub number: u8,
     pub table: Table,
 }
 
 // Number 0: whether the sheet is in the profile. Else 31, and no.
-#[derive(Drop)]
+#[derive(Clone, Copy)]
 pub struct ProfileCheck {
     pub number: u8,
     pub yes: bool,

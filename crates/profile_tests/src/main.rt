@@ -1,6 +1,8 @@
 // Profiles made and asked for. `stdin` has the cases, one line each: what is tried, the case's name, the sheet; for judge the log,
 // for node the line that is put in the table (its place, letter, a, b) and how many nodes are in use. `stdout` has what document 02
 // gives, worked by hand: a profile as the sheet that gives it, its lines parted by spaces.
+#![tactic(auto)]
+
 mod calls;
 mod show;
 mod tables;

@@ -10,7 +10,7 @@ use super::spreading::Visit;
 use super::steps::{has, pull};
 
 // The masks of the entries ahead of an entry and behind it.
-#[derive(Drop)]
+#[derive(Clone, Copy)]
 pub(crate) struct Around {
     pub(crate) ahead: u16,
     pub(crate) behind: u16,

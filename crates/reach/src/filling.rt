@@ -14,21 +14,21 @@ use aldlf::Node;
 const SLOTS: usize = 251;
 
 // Some nodes, by the bits of two words, as an entry has its verdicts.
-#[derive(Drop)]
+#[derive(Clone, Copy)]
 pub(crate) struct NodeSet {
     pub(crate) low: u64,
     pub(crate) high: u64,
 }
 
 // What is known of an automaton's edges: a bit of `looks` for each group of directions, and the nodes that they test.
-#[derive(Drop)]
+#[derive(Clone, Copy)]
 pub(crate) struct Traits {
     pub(crate) looks: u16,
     pub(crate) tested: NodeSet,
 }
 
 // An entry, and one that may be like it.
-#[derive(Drop)]
+#[derive(Clone, Copy)]
 pub(crate) struct Pair {
     pub(crate) entry: usize,
     pub(crate) like: usize,

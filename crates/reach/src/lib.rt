@@ -1,5 +1,7 @@
 // Marks, for each entry of a log or a part, the states from which a walk of an automaton reaches a goal or an exit.
 // One code for whole logs (no exits) and for parts (exits by the row beside them), for D and for B, and for both directions.
+#![tactic(auto)]
+
 mod closing;
 pub mod filling;
 mod spreading;
@@ -20,7 +22,7 @@ use steps::has;
 
 // What a walk is to reach: an accepting state (a bit of `accepting`) at an entry where `node` holds (`want`) or fails, or,
 // by an edge that leaves the log or the part, a state of `exits`. `looks` has a bit for each group of directions that edges go.
-#[derive(Drop)]
+#[derive(Clone, Copy)]
 pub struct Goal {
     pub accepting: u16,
     pub node: Node,

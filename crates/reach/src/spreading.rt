@@ -16,7 +16,7 @@ const AHEAD: u16 = 2;
 const BACK: u16 = 4;
 
 // A visit to an entry of a log that has these exits: which ways edges go, and which of them are due.
-#[derive(Drop)]
+#[derive(Clone, Copy)]
 pub(crate) struct Visit {
     pub(crate) exits: u16,
     pub(crate) looks: u16,

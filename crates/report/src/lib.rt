@@ -1,4 +1,6 @@
 // The printed page as bytes: the sheet is read, then the log, then the log is judged, then the rule's walk is shown.
+#![tactic(auto)]
+
 ghost use Rattle.std.specs.Prelude.{◌≡◌, ◌<◌, length};
 ghost use Rattle.aldlf.specs.Constants.{entry_limit};
 ghost use Rattle.aldlf.specs.declared.Table.{Table};
@@ -34,7 +36,7 @@ pub const REFUSAL: usize = 22;
 
 // What printing a page answers. Number 0: the page was written, and `bytes` counts it. 44: the page is longer than the lent
 // buffer, which is left as it was lent; `bytes` is 0.
-#[derive(Drop)]
+#[derive(Clone, Copy)]
 pub struct PageAnswer {
     pub number: u8,
     pub bytes: usize,

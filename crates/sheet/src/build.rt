@@ -10,7 +10,7 @@ use super::questions::last_of;
 use aldlf::{Automaton, Edge, Node, NodeLine, State, Table};
 
 // The table so far, whether the line before is M, G or E, and the line number of each M line.
-#[derive(Drop)]
+#[derive(Clone, Copy)]
 pub(crate) struct Reading {
     pub(crate) table: Table,
     pub(crate) inside: bool,

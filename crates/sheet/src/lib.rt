@@ -1,4 +1,6 @@
 // Reading a rule sheet to its table (document 01's questions 1 to 11), and which tables some sheet gives (question 31).
+#![tactic(auto)]
+
 pub mod build;
 mod closing;
 pub mod empty;
@@ -25,7 +27,7 @@ use ranges::{Stop, stop_at};
 // What a sheet reads to. Number 0: its table, line 0 and field 0. Else the number of the first question that gets a no, the line
 // that it is about (counted from 1; 0 where it is about none), the field (71 to 76: the leftmost that is out of range, the letter
 // being field 1; else 0), and a table all zeros.
-#[derive(Drop)]
+#[derive(Clone, Copy)]
 pub struct SheetAnswer {
     pub number: u8,
     pub line: u16,

@@ -6,7 +6,7 @@ ghost use Rattle.sheet.specs.Room.{FieldAfter};
 
 // A line: its letter (0 for none), how many fields follow it (5 for more than four), and the first four of those as numbers
 // (text::NOT_NUMBER for what is none, 0 for a field that is not there).
-#[derive(Drop)]
+#[derive(Clone, Copy)]
 pub(crate) struct Line {
     pub(crate) letter: u8,
     pub(crate) count: u8,
@@ -17,7 +17,7 @@ pub(crate) struct Line {
 }
 
 // The field after a comma, if there is one (`there` is 1): it as a number, and where it ends.
-#[derive(Drop)]
+#[derive(Clone, Copy)]
 pub(crate) struct Field {
     pub(crate) there: u8,
     pub(crate) value: u16,

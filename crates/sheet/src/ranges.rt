@@ -21,7 +21,7 @@ const COUNT: u8 = 76;
 
 // What stops the reading at a line: the number of a question that gets a no, and the field it is about (the letter is field 1; 0
 // where it is about none). Both are 0 where nothing does.
-#[derive(Drop)]
+#[derive(Clone, Copy)]
 pub(crate) struct Stop {
     pub(crate) number: u8,
     pub(crate) field: u8,

@@ -1,5 +1,7 @@
 // Sheets read and tables checked: `stdin` has the cases, one to a line, and `stdout` what documents 01 and 02 give for each.
 // A line's fields: what is tried, the case's name, its sheet, and for a changed table the numbers that are put there.
+#![tactic(auto)]
+
 mod tables;
 
 use aldlf::Table;

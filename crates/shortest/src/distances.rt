@@ -15,7 +15,7 @@ use graph::edges::{first_into, into, unpacked};
 use graph::moves::{FAR, numbered, prior, reciprocal};
 
 // A turn of the search: the queue's place to take, its first free place, and what stands for the count of states in `numbered`.
-#[derive(Drop)]
+#[derive(Clone, Copy)]
 pub(crate) struct Turn {
     pub(crate) head: u16,
     pub(crate) tail: u16,
@@ -23,7 +23,7 @@ pub(crate) struct Turn {
 }
 
 // What a search begins with: the configuration to be reached, and how many goals the queue has.
-#[derive(Drop)]
+#[derive(Clone, Copy)]
 pub(crate) struct Begun {
     pub(crate) start: u16,
     pub(crate) tail: u16,

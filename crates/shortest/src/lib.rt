@@ -1,5 +1,7 @@
 // Breadth-first distances of configurations to a goal, and the shortest walk with the lowest edges.
 // A room of the checker: its other crates call it, users do not.
+#![tactic(auto)]
+
 pub mod distances;
 mod seeds;
 pub mod trace;
@@ -11,14 +13,14 @@ ghost use Rattle.graph.specs.Configurations.{start_of};
 use aldlf::{Automaton, Entry, Node};
 
 // Where a walk is to end: in an accepting state at an entry where the node's verdict is `want`.
-#[derive(Drop)]
+#[derive(Clone, Copy)]
 pub struct Goal {
     pub node: Node,
     pub want: bool,
 }
 
 // A walk that is sought: of this automaton, from its start at this entry, to this goal.
-#[derive(Drop)]
+#[derive(Clone, Copy)]
 pub struct Query {
     pub automaton: Automaton,
     pub goal: Goal,

@@ -11,14 +11,14 @@ use graph::edges::{first_out, out, unpacked};
 use graph::moves::{Configuration, FAR, arrival};
 
 // An edge and the configuration that it leads to.
-#[derive(Drop)]
+#[derive(Clone, Copy)]
 pub(crate) struct Move {
     pub(crate) edge: u16,
     pub(crate) to: Configuration,
 }
 
 // A configuration, and a distance: its own, or the one that the next is to have.
-#[derive(Drop)]
+#[derive(Clone, Copy)]
 pub struct Wanted {
     pub from: Configuration,
     pub distance: u16,

@@ -15,7 +15,7 @@ use super::trimming::{copy, drop_lines};
 use packing::places::PLACES;
 
 // Which ways edges go: whether any goes ahead, and whether any goes back.
-#[derive(Drop)]
+#[derive(Clone, Copy)]
 pub struct Looks {
     pub ahead: bool,
     pub back: bool,

@@ -1,4 +1,6 @@
 // What a sheet's rule stands on, through nodes, edges and tests: which ways the rule looks, and the table in which every other node is false.
+#![tactic(auto)]
+
 pub mod lent;
 mod looking;
 mod marking;
@@ -14,7 +16,7 @@ use packing::writing::pack;
 
 // Which ways a sheet's rule looks. Number 0: whether it stands on an ahead edge, and whether on a back edge. Else 31, and no to both.
 // A log may be cut looking ahead where the rule does not look back, and looking back where it does not look ahead.
-#[derive(Drop)]
+#[derive(Clone, Copy)]
 pub struct RuleLooks {
     pub number: u8,
     pub ahead: bool,

@@ -1,4 +1,6 @@
 // Lines, fields and numbers of a text: what sheets and logs share. A line ends at an LF, a field at a comma.
+#![tactic(auto)]
+
 ghost use Rattle.std.specs.Prelude.{◌≡◌, ◌^◌, ◌≤◌, length, drop};
 ghost use Rattle.text.specs.Text.{not_number, ends_in_lf, line_at, number, number_in, up_to, CutOf};
 
@@ -9,7 +11,7 @@ pub const BYTES: usize = 49152;
 pub const NOT_NUMBER: u16 = 1000;
 
 // A line's first field: its length, and it as a number.
-#[derive(Drop)]
+#[derive(Clone, Copy)]
 pub struct Cut {
     pub end: usize,
     pub value: u16,

@@ -1,4 +1,6 @@
 // The walk that shows a verdict: by which steps through the log a D node holds or a B node fails.
+#![tactic(auto)]
+
 pub mod lent;
 mod search;
 
@@ -14,7 +16,7 @@ use packing::places::PLACES;
 use packing::writing::pack;
 
 // What asking for a walk answers: how many edges it has, or the number of the first question that gets a no.
-#[derive(Drop)]
+#[derive(Clone, Copy)]
 pub enum WalkAnswer {
     Shown(usize),
     Refused(u8),

@@ -1,5 +1,7 @@
 // Walks shown and refused. `stdin` has the cases, one line each: the call, the case's name, the sheet, the log, the node, the entry
 // and how many places are lent. Each prints the answer and the whole buffer; `stdout` has what document 01 gives.
+#![tactic(auto)]
+
 mod calls;
 mod longest;
 mod show;

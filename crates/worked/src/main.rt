@@ -1,5 +1,7 @@
 // Every job that document 01 works by hand, run on the calls. `stdin` has the jobs, one line each: the call, the job's name, the
 // sheet, the log, the node and the entry. What is printed is compared with what was written by hand.
+#![tactic(auto)]
+
 mod calls;
 mod show;
 
