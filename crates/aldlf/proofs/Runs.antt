@@ -1,5 +1,5 @@
 -- DEMAND 3 over the defined outcomes: wherever a run stands, its verdicts and its row are the joined log's by Definition 4. By splitting, call by call.
-use Prim.Native.Nat.{ℕ, zero, suc, ◌+◌, ◌*◌, ◌^◌, ◌≤◌, ◌<◌}
+use Prim.Native.Nat.{ℕ, zero, suc, ◌*◌, ◌^◌, ◌≤◌, ◌<◌}
 use native.Mathlib.Omega.{arith}
 use mathlib.Core.Path.{◌≡◌, refl, sym, subst, ap, ap₂, ◌∙◌, fun_ext}
 use mathlib.Core.Logic.Iff

@@ -14,7 +14,7 @@ use Rattle.aldlf.specs.declared.NodeLine.{NodeLine}
 use Rattle.aldlf.specs.declared.Edge.{Edge}
 use Rattle.aldlf.specs.declared.Automaton.{Automaton}
 use Rattle.aldlf.specs.declared.Table.{Table}
-use Rattle.sheet.specs.Questions.{arity, plains, start, each, whole_of}
+use Rattle.sheet.specs.Questions.{arity, plains, each, whole_of}
 use Rattle.sheet.specs.Given.{edges_before, nodes_before, node_fits, edge_fits, head_fits, edges_fit, is_no_line, is_no_edge, is_no_automaton, sized, used_fits, node_ok, nodes_fit, automaton_ok, automata_fit, nodes_end, automata_end, edges_end, all_owned, well_formed}
 use Rattle.sheet.proofs.Bools.{never, both, same, split}
 use Rattle.sheet.proofs.Each.{each_at, each_all}

@@ -7,7 +7,7 @@ use native.Mathlib.Omega.{arith}
 use Rattle.aldlf.specs.declared.Table.{Table}
 use Rattle.sheet.specs.Given.{well_formed}
 use Rattle.sheet.specs.Facts.{node_at, automaton_at, edge_at, ModalFacts, NodeFacts, TableFacts}
-use Rattle.sheet.proofs.Grown.{NodeOk, node, edge, ok_t, ok_f, ok_p, ok_n, ok_a, ok_o, ok_d, ok_b}
+use Rattle.sheet.proofs.Grown.{NodeOk, ok_t, ok_f, ok_p, ok_n, ok_a, ok_o, ok_d, ok_b}
 use Rattle.sheet.proofs.Decided.{edges-end, wf_yes}
 
 node_facts : (t : Table) (k : ℕ) → NodeOk t.used.automata t.automata k (node_at t k) → NodeFacts t k

@@ -17,7 +17,7 @@ use Rattle.aldlf.specs.declared.Automaton.{Automaton}
 use Rattle.aldlf.specs.declared.Table.{Table}
 use Rattle.sheet.specs.declared.line.Line.{Line}
 use Rattle.sheet.specs.declared.build.Reading.{Reading}
-use Rattle.sheet.specs.Questions.{arity, last, with_node, start}
+use Rattle.sheet.specs.Questions.{arity, last, with_node}
 use Rattle.sheet.specs.Given.{edges_before, nodes_before}
 use Rattle.sheet.proofs.Bools.{same}
 use Rattle.sheet.proofs.Letters.{Kind, kind_of, is_t, is_f, is_p, is_n, is_g, is_a, is_o, is_d, is_b, is_m, is_e, is_none}

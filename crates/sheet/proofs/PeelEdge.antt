@@ -19,7 +19,7 @@ use Rattle.text.specs.Text.{not_number}
 use Rattle.sheet.specs.declared.line.Line.{Line}
 use Rattle.sheet.specs.declared.build.Reading.{Reading}
 use Rattle.sheet.specs.Ranges.{is_of_kind, kinds, first_wrong, out_of_range}
-use Rattle.sheet.specs.Questions.{known_line, all_numbers, room_left, belongs, last, newly_accepting, plain_step, question, edge_by, with_edge, added, start}
+use Rattle.sheet.specs.Questions.{known_line, all_numbers, room_left, belongs, last, newly_accepting, plain_step, question, edge_by, with_edge, added}
 use Rattle.sheet.specs.Given.{edges_before, nodes_before}
 use Rattle.sheet.proofs.Bools.{same}
 use Rattle.sheet.proofs.Fits.{edges_last}

@@ -20,7 +20,6 @@ use Rattle.sheet.specs.declared.build.Reading.{Reading}
 use Rattle.sheet.specs.Ranges.{is_of_kind, kinds, first_wrong, out_of_range}
 use Rattle.sheet.specs.Questions.{arity, known_line, all_numbers, room_left, belongs, last, newly_accepting, plain_step, question, with_node, added}
 use Rattle.sheet.specs.Given.{nodes_before}
-use Rattle.sheet.proofs.Bools.{same}
 use Rattle.sheet.proofs.Asked.{question_passes}
 use Rattle.sheet.proofs.Added.{line_node}
 use Rattle.sheet.proofs.Passed.{Absent}

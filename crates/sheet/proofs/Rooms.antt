@@ -16,7 +16,7 @@ use Rattle.sheet.proofs.Letters.{Kind, kind_of, is_t, is_f, is_p, is_n, is_g, is
 use Rattle.sheet.proofs.Words.{clear_fits}
 use Rattle.sheet.proofs.Fits.{edges_last}
 use Rattle.sheet.proofs.Passed.{Passed, Absent, said_M, said_G, said_E, said_count, said_room, said_P, said_N, said_two, said_walk}
-use Rattle.sheet.proofs.Grown.{AutoOk, node, edge, Grown}
+use Rattle.sheet.proofs.Grown.{AutoOk, Grown}
 
 module _ (r : Reading) (l : Line) (g : Grown r.table r.inside) (p : Passed r l) (z : Absent l) where
   room_M : l.letter ≡ letter_m → AutomatonRoom r.table l

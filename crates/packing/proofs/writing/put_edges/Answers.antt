@@ -13,7 +13,7 @@ pub loop-e-init : goal.loop-e-init
 loop-e-init c = (omega arith, c.requires, put_none _ _ _)
 
 pub loop-e-preserved : goal.loop-e-preserved
-loop-e-preserved c = 
+loop-e-preserved c =
     let l = c.loop-e in
     let P : ℕ → ℕ → Type 0 = λ (k p : ℕ). edge_in p ≡ get_or c.args.edges k no_edge in
     let next = put_next P 0 l.e c.args.numbers.now l.numbers c.packed_edge.result l.invariant.2 (omega (arith, c.loop-e-test.true, l.invariant.1)) c.packed_edge.ensures.1 in
@@ -27,6 +27,6 @@ pub shape_of-numbers : goal.shape_of-numbers
 shape_of-numbers c = c.loop-e.invariant.2.same
 
 pub returns : goal.returns
-returns c = 
+returns c =
     let l = c.loop-e in
     subst (λ (n : ℕ). Put (λ (k p : ℕ). edge_in p ≡ get_or c.args.edges k no_edge) 0 n c.args.numbers.now l.numbers) (omega (arith, l.invariant.0, c.loop-e-test.false)) l.invariant.2
