@@ -1,6 +1,3 @@
-pub mod Held
-pub mod Parts
-pub mod Reading
 pub mod LineFacts
 pub mod Words
 pub mod Places
