@@ -1,9 +1,10 @@
 -- The seeds, and what the marks grown from them are: what is reached of the goal.
 use Prim.Native.Nat.{ℕ, ◌^◌, ◌<◌}
-use mathlib.Core.Path.{◌≡◌, refl, ap, ◌∙◌}
+use mathlib.Core.Path.{◌≡◌, refl, sym, subst, ap, ◌∙◌}
 use mathlib.Core.Bool.{Bool, true, false, ◌&&◌, true≢false}
 use mathlib.Core.List.{List}
 use lib.ListN.{length}
+use native.Mathlib.Omega.{arith}
 use Rattle.aldlf.specs.Constants.{state_limit}
 use Rattle.aldlf.specs.Sheet.{bit}
 use Rattle.aldlf.specs.Verdict.{facing}
@@ -24,6 +25,14 @@ marking_start E exits words seeds same small = record {
   sound = λ s i ls li p. seeds_reached E exits words seeds s i li p;
   still = λ i e li le d. absurd (true≢false d);
 }
+
+-- the seeds are masks of states
+pub seeds_fit : (g : Goal) (words seeds : List ℕ) → g.accepting < 2 ^ state_limit → Seeded g words (length words) seeds → (i : ℕ) → i < length words → at seeds i < 2 ^ state_limit
+seeds_fit g words seeds f s i l = subst (λ (x : ℕ). x < 2 ^ state_limit) (sym (s.masks i l)) (go (facing g.want (holds_in words g.node.0 i)))
+  where
+    go : (b : Bool) → pick b g.accepting 0 < 2 ^ state_limit
+    go true = f
+    go false = omega arith
 
 bit_goal : (b : Bool) (x u : ℕ) → bit (pick b x 0) u ≡ bit x u && b
 bit_goal b x u = go b (bit x u) refl

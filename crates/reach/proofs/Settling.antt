@@ -12,9 +12,9 @@ use borrow.Author.Tests.{eqb-true, ne_eqb}
 use Rattle.aldlf.specs.Constants.{state_limit}
 use Rattle.aldlf.specs.Sheet.{bit}
 use Rattle.aldlf.proofs.Bools.{bool_cases}
-use Rattle.reach.specs.Marks.{at, pick, from_of, to_of, dir_in, test_of, EdgesFit}
-use Rattle.reach.specs.Columns.{group_of, column_of, Told, Step, Columns}
-use Rattle.reach.specs.Steps.{pick_bool, side_of, lands_in, Settled, Pulls, Beside, Closed}
+use Rattle.reach.specs.Marks.{at, from_of, to_of, dir_in, EdgesFit}
+use Rattle.reach.specs.Columns.{group_of, Told, Step, Columns}
+use Rattle.reach.specs.Steps.{side_of, lands_in, Pulls, Beside, Closed}
 use Rattle.reach.proofs.Bits.{bit-zero, le_or, in_left, in_right, in_either}
 
 -- Directions by their groups ------------------------------------------------------------------------------------------------------
