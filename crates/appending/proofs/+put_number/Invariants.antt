@@ -1,0 +1,5 @@
+-- The measure of put_number: its number.
+use Rattle.appending.proofs.+put_number.Given as goal
+
+abbrev pub decreases-put_number : goal.decreases-put_number
+decreases-put_number l = l.n
