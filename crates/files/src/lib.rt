@@ -2,9 +2,17 @@
 // A room of the checker: its programs call it, users do not.
 #![tactic(auto)]
 
-ghost use Rattle.std.specs.Prelude.{◌-◌, ◌≤◌, length};
-ghost use Rattle.io.specs.Counts.{IsPrefixLen};
-ghost use Rattle.files.specs.Content.{Within};
+ghost use Rattle.std.specs.Prelude.{◌≡◌, ◌↔◌, ◌-◌, ◌<◌, ◌≤◌, length, take, drop, IfOk};
+ghost use Rattle.std.specs.IoError.{error_kind};
+ghost use Rattle.files.specs.Counts.{IsPrefixLen};
+ghost use Rattle.std.specs.Io.{ReadsAtMost};
+ghost use Rattle.std.specs.Io.KnownBytes.{Consumes, IsAtEnd};
+ghost use Rattle.files.specs.Content.{OnBytes, Within};
+
+use std::fs::File;
+use std::io;
+use std::io::{ErrorKind, Read};
+use std::rt::Files;
 
 // What came of a file: so many bytes, or a failure, which was said on standard error.
 #[derive(Clone, Copy)]
@@ -22,11 +30,17 @@ pub struct Contents {
 }
 
 // The bytes of two files, each at the start of its buffer. Where the first one fails, the other is not opened.
-pub fn read_two(path: &[u8], buffer: &mut [u8], other: &[u8], more: &mut [u8]) -> Contents
+pub fn read_two(
+    rt: &(impl Files + Eprint),
+    path: &str,
+    buffer: &mut [u8],
+    other: &str,
+    more: &mut [u8],
+) -> Contents
     ensures prefix_len { IsPrefixLen result.first buffer.new }
     ensures prefix_len_2 { IsPrefixLen result.second more.new }
 {
-    let one = read_file(path, buffer);
+    let one = read_file(rt, path, buffer);
     let Content::Bytes(n) = one else {
         return Contents {
             read: false,
@@ -34,7 +48,7 @@ pub fn read_two(path: &[u8], buffer: &mut [u8], other: &[u8], more: &mut [u8]) -
             second: 0,
         };
     };
-    let two = read_file(other, more);
+    let two = read_file(rt, other, more);
     let Content::Bytes(m) = two else {
         return Contents {
             read: false,
@@ -50,59 +64,72 @@ pub fn read_two(path: &[u8], buffer: &mut [u8], other: &[u8], more: &mut [u8]) -
 }
 
 // The bytes of a file at the start of `buffer`, as many as fit. A missing file has none.
-fn read_file(path: &[u8], buffer: &mut [u8]) -> Content
+fn read_file(rt: &(impl Files + Eprint), path: &str, buffer: &mut [u8]) -> Content
     ensures { Within (length buffer.new) result }
 {
-    let file = os::open_read(path);
-    if file < 0 {
-        return not_opened(path);
+    match File::open(rt, path) {
+        Ok(mut file) => read_all(rt, &mut file, path, buffer),
+        Err(e) => not_opened(rt, path, &e),
     }
-    let content = read_all(file, path, buffer);
-    libc::close(file);
-    content
 }
 
 // A file that does not open: only a missing one counts as empty.
-fn not_opened(path: &[u8]) -> Content
-    ensures { Within 0 result }
+fn not_opened(rt: &impl Eprint, path: &str, error: &io::Error) -> Content
+    ensures within { Within 0 result }
+    ensures missing { result ≡ Content.Bytes 0 ↔ error_kind error.now ≡ ErrorKind.NotFound }
 {
-    if os::errno() == libc::ENOENT {
+    if error.kind() == ErrorKind::NotFound {
         return Content::Bytes(0);
     }
-    os::fail(path);
+    fail(rt, path, error);
     Content::Failed
 }
 
-// Reads until the file ends or the buffer is full. Each turn leaves less room, so that it ends even where the file does not.
-fn read_all(file: i32, path: &[u8], buffer: &mut [u8]) -> Content
-    ensures { Within (length buffer.new) result }
+// The bytes of an open file. A read that fails is said.
+fn read_all<F: Read>(rt: &impl Eprint, file: &mut F, path: &str, buffer: &mut [u8]) -> Content
+    ensures within { Within (length buffer.new) result }
+    ensures bytes { OnBytes result (λ n. Consumes (F.remaining file.old) (F.remaining file.new) (take n buffer.new)) }
+    ensures end { OnBytes result (λ n. n < length buffer.new → IsAtEnd (F.remaining file.new)) }
+{
+    match read_full(file, buffer) {
+        Ok(n) => Content::Bytes(n),
+        Err(e) => {
+            fail(rt, path, &e);
+            Content::Failed
+        }
+    }
+}
+
+// Reads until the reader ends or the buffer is full. Each turn leaves less room, so that it ends even where the reader does not.
+// Where a reader's bytes are known, those that came are the first of them, and a buffer that is not full has them all.
+pub fn read_full<R: Read>(reader: &mut R, buffer: &mut [u8]) -> io::Result<usize>
+    ensures bound { ReadsAtMost result buffer.new }
+    ensures bytes { IfOk result (λ n. Consumes (R.remaining reader.old) (R.remaining reader.new) (take n buffer.new)) }
+    ensures end { IfOk result (λ n. n < length buffer.new → IsAtEnd (R.remaining reader.new)) }
 {
     let mut done: usize = 0;
     while done < buffer.len() {
-        let more = read_some(file, path, buffer, done);
-        match more {
-            Content::Failed => return Content::Failed,
-            Content::Bytes(n) => {
-                if n == 0 {
-                    return Content::Bytes(done);
-                }
-                done += n;
-            }
+        let n = read_some(reader, buffer, done)?;
+        if n == 0 {
+            return Ok(done);
         }
+        done += n;
     }
-    Content::Bytes(done)
+    Ok(done)
 }
 
 // One read, to the places from `done` on. A call that a signal interrupts counts as failed.
-fn read_some(file: i32, path: &[u8], buffer: &mut [u8], done: usize) -> Content
+fn read_some<R: Read>(reader: &mut R, buffer: &mut [u8], done: usize) -> io::Result<usize>
     requires { done ≤ length buffer.old }
-    ensures { Within (length buffer.old - done) result }
+    ensures bound { IfOk result (λ n. n ≤ length buffer.old - done) }
+    ensures front { take done buffer.new ≡ take done buffer.old }
+    ensures bytes { IfOk result (λ n. Consumes (R.remaining reader.old) (R.remaining reader.new) (take n (drop done buffer.new))) }
+    ensures end { IfOk result (λ n. n ≡ 0 → done < length buffer.old → IsAtEnd (R.remaining reader.new)) }
 {
-    let rest = &mut buffer[done..];
-    let got = libc::read(file, rest);
-    if got < 0 {
-        os::fail(path);
-        return Content::Failed;
-    }
-    Content::Bytes(io::count(got, rest))
+    reader.read(&mut buffer[done..])
+}
+
+// Says on standard error what failed and why, in one line. Where that fails too, nobody is left to be told.
+pub fn fail(rt: &impl Eprint, what: &str, error: &io::Error) {
+    let _ = eprintln!(rt; "{what}: {error}");
 }
