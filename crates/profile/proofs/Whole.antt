@@ -2,12 +2,12 @@
 use Prim.Native.Nat.{ℕ, zero, suc}
 use mathlib.Core.Path.{◌≡◌, refl, ap, ap₂, ◌∙◌}
 use mathlib.Core.List.{List, [], ◌∷◌, map}
-use mathlib.Core.Bool.{Bool, cond, ◌&&◌, ◌||◌}
+use mathlib.Core.Bool.{Bool, cond, ◌||◌}
 use lib.ListN.{take, drop}
 use Rattle.aldlf.specs.declared.Edge.{Edge}
 use Rattle.aldlf.specs.declared.Automaton.{Automaton}
 use Rattle.aldlf.specs.declared.Table.{Table}
-use Rattle.sheet.specs.Questions.{stands_on, some_edge, edges_of, each, each_state, whole, whole_of}
+use Rattle.sheet.specs.Questions.{stands_on, some_edge, edges_of, each_state, whole, whole_of}
 use Rattle.sheet.proofs.Each.{each_cong}
 use Rattle.profile.specs.Profile.{kept_automaton, kept_edge, profile_of}
 
