@@ -1,9 +1,10 @@
 // The call, on a case's line. The places that are lent hold 170 and 999, which are no verdict word and no count of any case.
 ghost use Rattle.std.specs.Prelude.{◌≤◌};
-ghost use Rattle.io.specs.Counts.{IsPrefixLen};
+ghost use Rattle.files.specs.Counts.{IsPrefixLen};
 
 use super::show;
 use aldlf::Table;
+use std::io;
 
 // One entry more than two logs may have.
 const WORDS: usize = 2 * aldlf::ENTRIES + 1;
@@ -15,33 +16,43 @@ const VERDICTS: usize = 4 * aldlf::ENTRIES + 1;
 const LOGS: usize = 4;
 
 // Judges the case's list.
-pub(crate) fn list(line: &[u8]) {
+pub(crate) fn list(rt: &impl Print, line: &[u8]) -> io::Result<()> {
     let mut words = [0u32; WORDS];
     let mut lengths = [0u16; LOGS];
     let n = words_of(line, &mut words);
     let k = lengths_of(line, &mut lengths);
-    list_of(line, &words[..n], &lengths[..k]);
+    list_of(rt, line, &words[..n], &lengths[..k])
 }
 
 // The same with its words and lengths.
-fn list_of(line: &[u8], words: &[u32], lengths: &[u16]) {
+fn list_of(rt: &impl Print, line: &[u8], words: &[u32], lengths: &[u16]) -> io::Result<()> {
     let mut verdicts = [170u64; VERDICTS];
     let mut held = [999u16; LOGS];
     let v = verdict_room(line, &verdicts);
     let h = count_room(line, &held);
-    list_in(line, words, lengths, &mut verdicts[..v], &mut held[..h]);
+    list_in(rt, line, words, lengths, &mut verdicts[..v], &mut held[..h])
 }
 
 // The same in the places lent.
-fn list_in(line: &[u8], words: &[u32], lengths: &[u16], verdicts: &mut [u64], held: &mut [u16]) {
-    show::answer(batch::judge_logs(table(line), words, lengths, verdicts, held));
-    show::words(verdicts, number(line, 7));
-    show::counts(held);
+fn list_in(
+    rt: &impl Print,
+    line: &[u8],
+    words: &[u32],
+    lengths: &[u16],
+    verdicts: &mut [u64],
+    held: &mut [u16],
+) -> io::Result<()> {
+    show::answer(
+        rt,
+        batch::judge_logs(table(line), words, lengths, verdicts, held),
+    )?;
+    show::words(rt, verdicts, number(line, 7))?;
+    show::counts(rt, held)
 }
 
 // The table of the case's sheet.
 fn table(line: &[u8]) -> Table {
-    let mut bytes = io::buffer();
+    let mut bytes = [0u8; cases::TEXT];
     let n = cases::text_of(line, 1, &mut bytes);
     sheet::read_sheet(&bytes[..n]).table
 }
@@ -50,7 +61,7 @@ fn table(line: &[u8]) -> Table {
 fn words_of(line: &[u8], words: &mut [u32]) -> usize
     ensures { IsPrefixLen result words.new }
 {
-    let mut bytes = io::buffer();
+    let mut bytes = [0u8; cases::TEXT];
     let n = cases::text_of(line, 2, &mut bytes);
     joblog::read_log(&bytes[..n], words);
     least(number(line, 3), words.len())
@@ -60,7 +71,7 @@ fn words_of(line: &[u8], words: &mut [u32]) -> usize
 fn lengths_of(line: &[u8], lengths: &mut [u16]) -> usize
     ensures { IsPrefixLen result lengths.new }
 {
-    let mut bytes = io::buffer();
+    let mut bytes = [0u8; cases::TEXT];
     let n = cases::text_of(line, 4, &mut bytes);
     put_lengths(&bytes[..n], lengths)
 }

@@ -6,24 +6,27 @@
 mod calls;
 mod show;
 
-fn main() {
-    let mut input = io::large_buffer();
-    let n = io::read_full(libc::STDIN_FILENO, &mut input);
-    each(&input[..n]);
+use std::io;
+
+fn main(rt: HostRuntime) -> io::Result<()> {
+    let mut input = [0u8; cases::INPUT];
+    let n = cases::read_input(&rt, &mut input)?;
+    each(&rt, &input[..n])
 }
 
 // The cases in order.
-fn each(lines: &[u8]) {
+fn each(rt: &impl Print, lines: &[u8]) -> io::Result<()> {
     let mut at: usize = 0;
     while at < lines.len() {
-        case(text::line_at(lines, at));
+        case(rt, text::line_at(lines, at))?;
         at = cases::past(lines, b'\n', at);
     }
+    Ok(())
 }
 
 // A case's name and its outcome.
-fn case(line: &[u8]) {
-    show::put(cases::field(line, 0));
-    calls::list(line);
-    show::put(b"\n");
+fn case(rt: &impl Print, line: &[u8]) -> io::Result<()> {
+    show::put(rt, cases::field(line, 0))?;
+    calls::list(rt, line)?;
+    show::put(rt, b"\n")
 }

@@ -6,8 +6,24 @@ pub mod show;
 pub mod zeros;
 
 ghost use Rattle.std.specs.Prelude.{◌≡◌, ◌≤◌, ◌<◌, min, length, get_or};
-ghost use Rattle.io.specs.Counts.{IsPrefixLen};
+ghost use Rattle.std.specs.Io.{ReadsAtMost};
+ghost use Rattle.files.specs.Counts.{IsPrefixLen};
 ghost use Rattle.cases.specs.Cases.{bar, Past, part_of, number_of, digit_of, plain_of, byte_at, bytes_of, PutText, written};
+
+use std::io;
+
+// The cases of a test program have no more bytes.
+pub const INPUT: usize = 65536;
+
+// The text of no field has more, but for sheets and logs of the greatest length, which have room in `INPUT` bytes.
+pub const TEXT: usize = 4096;
+
+// The cases on standard input, at the front of a buffer, as far as it has room; how many bytes they are.
+pub fn read_input(rt: &impl Input, buffer: &mut [u8]) -> io::Result<usize>
+    ensures { ReadsAtMost result buffer.new }
+{
+    files::read_full(&mut rt.reader(), buffer)
+}
 
 // The place after the part that starts at `at` and after the `sep` that ends it; the end where none does.
 pub fn past(s: &[u8], sep: u8, at: usize) -> usize

@@ -1,94 +1,100 @@
 // The sheet that gives a table, printed. A table does not say where the G lines stood among the E lines: they come first, and their states rise.
 use super::show;
 use aldlf::{Automaton, Edge, NodeLine, Table};
+use std::io;
 
 // The node lines, each below the automata that stand directly above it.
-pub fn sheet(t: Table) {
+pub fn sheet(rt: &impl Print, t: Table) -> io::Result<()> {
     let n = t.used.nodes as usize;
     let mut k: usize = 0;
     while k < aldlf::NODES {
         if k < n {
-            automata(t, k);
-            node(t.nodes[k]);
+            automata(rt, t, k)?;
+            node(rt, t.nodes[k])?;
         }
         k += 1;
     }
+    Ok(())
 }
 
 // The automata that stand directly above node k.
-fn automata(t: Table, k: usize) {
+fn automata(rt: &impl Print, t: Table, k: usize) -> io::Result<()> {
     let n = t.used.automata as usize;
     let mut m: usize = 0;
     while m < aldlf::AUTOMATA {
         if m < n {
-            above(t, t.automata[m], k);
+            above(rt, t, t.automata[m], k)?;
         }
         m += 1;
     }
+    Ok(())
 }
 
 // An automaton, if it stands directly above node k.
-fn above(t: Table, x: Automaton, k: usize) {
+fn above(rt: &impl Print, t: Table, x: Automaton, k: usize) -> io::Result<()> {
     if x.before as usize == k {
-        show::put(b" M");
-        operand(x.states);
-        operand(x.start.0);
-        accepting(x.accepting);
-        edges(t, x);
+        show::put(rt, b" M")?;
+        operand(rt, x.states)?;
+        operand(rt, x.start.0)?;
+        accepting(rt, x.accepting)?;
+        edges(rt, t, x)?;
     }
+    Ok(())
 }
 
 // The states that accept.
-fn accepting(bits: u16) {
+fn accepting(rt: &impl Print, bits: u16) -> io::Result<()> {
     let mut rest = bits;
     let mut s: usize = 0;
     while s < aldlf::STATES {
         if rest % 2 == 1 {
-            show::put(b" G,");
-            show::digits(s as u64);
+            show::put(rt, b" G,")?;
+            show::digits(rt, s as u64)?;
         }
         rest = rest / 2;
         s += 1;
     }
+    Ok(())
 }
 
 // An automaton's edges.
-fn edges(t: Table, x: Automaton) {
+fn edges(rt: &impl Print, t: Table, x: Automaton) -> io::Result<()> {
     let mut e = x.first as usize;
     let end = e + x.count as usize;
     while e < aldlf::EDGES {
         if e < end {
-            edge(t.edges[e]);
+            edge(rt, t.edges[e])?;
         }
         e += 1;
     }
+    Ok(())
 }
 
-fn edge(x: Edge) {
-    show::put(b" E");
-    operand(x.from.0);
-    operand(x.dir);
-    operand(x.test.0);
-    operand(x.to.0);
+fn edge(rt: &impl Print, x: Edge) -> io::Result<()> {
+    show::put(rt, b" E")?;
+    operand(rt, x.from.0)?;
+    operand(rt, x.dir)?;
+    operand(rt, x.test.0)?;
+    operand(rt, x.to.0)
 }
 
-fn node(x: NodeLine) {
+fn node(rt: &impl Print, x: NodeLine) -> io::Result<()> {
     let kind = x.kind;
     let letter = [b' ', kind];
-    show::put(&letter);
+    show::put(rt, &letter)?;
     match kind {
-        b'T' | b'F' => {}
-        b'P' | b'N' => operand(x.a),
-        _ => operands(x.a, x.b),
+        b'T' | b'F' => Ok(()),
+        b'P' | b'N' => operand(rt, x.a),
+        _ => operands(rt, x.a, x.b),
     }
 }
 
-fn operands(a: u8, b: u8) {
-    operand(a);
-    operand(b);
+fn operands(rt: &impl Print, a: u8, b: u8) -> io::Result<()> {
+    operand(rt, a)?;
+    operand(rt, b)
 }
 
-fn operand(a: u8) {
-    show::put(b",");
-    show::digits(a as u64);
+fn operand(rt: &impl Print, a: u8) -> io::Result<()> {
+    show::put(rt, b",")?;
+    show::digits(rt, a as u64)
 }

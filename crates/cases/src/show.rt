@@ -1,15 +1,16 @@
 // What is printed of an outcome: bytes and numbers.
+use std::io;
 
 // A number behind a space.
-pub fn number(n: u64) {
-    put(b" ");
-    digits(n);
+pub fn number(rt: &impl Print, n: u64) -> io::Result<()> {
+    put(rt, b" ")?;
+    digits(rt, n)
 }
 
-pub fn digits(n: u64) {
-    io::print_decimal(libc::STDOUT_FILENO, n);
+pub fn digits(rt: &impl Print, n: u64) -> io::Result<()> {
+    rt.print(n)
 }
 
-pub fn put(s: &[u8]) {
-    io::write_all(libc::STDOUT_FILENO, s);
+pub fn put(rt: &impl Print, s: &[u8]) -> io::Result<()> {
+    rt.write_all(s)
 }

@@ -1,29 +1,30 @@
 // Whether a table is all zeros, printed: what stands beside a refusal.
 use super::show;
 use aldlf::{NodeLine, Table, Used};
+use std::io;
 
 // Prints the counts and the first line's numbers, and whether all other places are zeros.
-pub fn zeros(t: Table) {
-    show::put(b" used");
-    show::number(t.used.nodes as u64);
-    show::number(t.used.automata as u64);
-    show::number(t.used.edges as u64);
-    first(t.nodes[0]);
-    rest(sheet::is_given(of_one_line(t)));
+pub fn zeros(rt: &impl Print, t: Table) -> io::Result<()> {
+    show::put(rt, b" used")?;
+    show::number(rt, t.used.nodes as u64)?;
+    show::number(rt, t.used.automata as u64)?;
+    show::number(rt, t.used.edges as u64)?;
+    first(rt, t.nodes[0])?;
+    rest(rt, sheet::is_given(of_one_line(t)))
 }
 
-fn first(x: NodeLine) {
-    show::put(b" first");
-    show::number(x.kind as u64);
-    show::number(x.a as u64);
-    show::number(x.b as u64);
+fn first(rt: &impl Print, x: NodeLine) -> io::Result<()> {
+    show::put(rt, b" first")?;
+    show::number(rt, x.kind as u64)?;
+    show::number(rt, x.a as u64)?;
+    show::number(rt, x.b as u64)
 }
 
-fn rest(zeros: bool) {
+fn rest(rt: &impl Print, zeros: bool) -> io::Result<()> {
     if zeros {
-        show::put(b" rest zeros");
+        show::put(rt, b" rest zeros")
     } else {
-        show::put(b" rest not zeros");
+        show::put(rt, b" rest not zeros")
     }
 }
 

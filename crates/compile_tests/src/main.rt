@@ -5,53 +5,55 @@
 
 use cases::show::{digits, number, put};
 use compile::FormulaAnswer;
+use std::io;
 
 // A text up to so long is printed whole, and of a longer one so many bytes.
 const WHOLE: usize = 80;
 
 const START: usize = 20;
 
-fn main() {
-    let mut input = io::large_buffer();
-    let n = io::read_full(libc::STDIN_FILENO, &mut input);
-    each(&input[..n]);
+fn main(rt: HostRuntime) -> io::Result<()> {
+    let mut input = [0u8; cases::INPUT];
+    let n = cases::read_input(&rt, &mut input)?;
+    each(&rt, &input[..n])
 }
 
 // The cases in order.
-fn each(lines: &[u8]) {
+fn each(rt: &impl Print, lines: &[u8]) -> io::Result<()> {
     let mut at: usize = 0;
     while at < lines.len() {
-        case(text::line_at(lines, at));
+        case(rt, text::line_at(lines, at))?;
         at = cases::past(lines, b'\n', at);
     }
+    Ok(())
 }
 
 // A case's text and its outcome.
-fn case(formula: &[u8]) {
-    shown(formula);
-    answered(compile::read_formula(formula));
-    put(b"\n");
+fn case(rt: &impl Print, formula: &[u8]) -> io::Result<()> {
+    shown(rt, formula)?;
+    answered(rt, compile::read_formula(formula))?;
+    put(rt, b"\n")
 }
 
 // The text, or its length and its start.
-fn shown(formula: &[u8]) {
+fn shown(rt: &impl Print, formula: &[u8]) -> io::Result<()> {
     if formula.len() <= WHOLE {
-        put(formula);
+        put(rt, formula)
     } else {
-        digits(formula.len() as u64);
-        put(b" ");
-        put(&formula[..START]);
+        digits(rt, formula.len() as u64)?;
+        put(rt, b" ")?;
+        put(rt, &formula[..START])
     }
 }
 
 // The number and the place, and what the table holds.
-fn answered(a: FormulaAnswer) {
+fn answered(rt: &impl Print, a: FormulaAnswer) -> io::Result<()> {
     let t = a.table;
-    number(a.number as u64);
-    number(a.place as u64);
+    number(rt, a.number as u64)?;
+    number(rt, a.place as u64)?;
     if a.number == 0 {
-        cases::sheets::sheet(t);
+        cases::sheets::sheet(rt, t)
     } else {
-        cases::zeros::zeros(t);
+        cases::zeros::zeros(rt, t)
     }
 }

@@ -9,49 +9,49 @@ mod counters;
 ghost use Rattle.std.specs.Prelude.{◌≤◌};
 
 use joblog::LogAnswer;
+use std::io;
 
 // Two words more than a log has entries.
 const WORDS: usize = aldlf::ENTRIES + 2;
 
-fn main() {
-    let mut buffer = io::large_buffer();
-    let n = io::read_full(0, &mut buffer);
-    each(&buffer[..n]);
+fn main(rt: HostRuntime) -> io::Result<()> {
+    let mut buffer = [0u8; cases::INPUT];
+    let n = cases::read_input(&rt, &mut buffer)?;
+    each(&rt, &buffer[..n])
 }
 
-fn each(cases: &[u8]) {
+fn each(rt: &impl Print, cases: &[u8]) -> io::Result<()> {
     let mut at: usize = 0;
     while at < cases.len() {
-        tried(text::line_at(cases, at));
+        tried(rt, text::line_at(cases, at))?;
         at = cases::past(cases, b'\n', at);
     }
+    Ok(())
 }
 
-fn tried(line: &[u8]) {
-    io::write_all(1, cases::field(line, 1));
+fn tried(rt: &impl Print, line: &[u8]) -> io::Result<()> {
+    rt.write_all(cases::field(line, 1))?;
     let call = cases::letter(line);
     if call == b's' {
-        counters::stepped(line);
-        return;
+        return counters::stepped(rt, line);
     }
     if call == b'e' {
-        counters::looked(line);
-        return;
+        return counters::looked(rt, line);
     }
-    lending(line, call == b'c');
+    lending(rt, line, call == b'c')
 }
 
 // Reads a case's log, in either form.
-fn lending(line: &[u8], counted: bool) {
+fn lending(rt: &impl Print, line: &[u8], counted: bool) -> io::Result<()> {
     let mut words = [7u32; WORDS];
     let n = lent(line);
-    answered(line, counted, &mut words[..n]);
+    answered(rt, line, counted, &mut words[..n])
 }
 
 // Prints what is answered and the words of the lent buffer after the call.
-fn answered(line: &[u8], counted: bool, words: &mut [u32]) {
-    read(line, counted, words);
-    shown(words, number(line, 4));
+fn answered(rt: &impl Print, line: &[u8], counted: bool, words: &mut [u32]) -> io::Result<()> {
+    read(rt, line, counted, words)?;
+    shown(rt, words, number(line, 4))
 }
 
 // How many words a case lends.
@@ -70,48 +70,47 @@ fn number(line: &[u8], k: usize) -> usize {
 }
 
 // What reading a case's log answers.
-fn read(line: &[u8], counted: bool, words: &mut [u32]) {
-    let mut log = io::large_buffer();
+fn read(rt: &impl Print, line: &[u8], counted: bool, words: &mut [u32]) -> io::Result<()> {
+    let mut log = [0u8; cases::INPUT];
     let n = cases::put_text(cases::field(line, 2), &mut log);
-    read_by(&log[..n], counted, words);
+    read_by(rt, &log[..n], counted, words)
 }
 
-fn read_by(log: &[u8], counted: bool, words: &mut [u32]) {
+fn read_by(rt: &impl Print, log: &[u8], counted: bool, words: &mut [u32]) -> io::Result<()> {
     if counted {
-        counters::said(joblog::read_counted(log, words));
-        return;
+        return counters::said(rt, joblog::read_counted(log, words));
     }
-    said(joblog::read_log(log, words));
+    said(rt, joblog::read_log(log, words))
 }
 
-fn said(a: LogAnswer) {
+fn said(rt: &impl Print, a: LogAnswer) -> io::Result<()> {
     match a {
-        LogAnswer::Read(n) => numbered(b": read,", n as u64),
-        LogAnswer::Refused(q, k) => refused(q, k),
+        LogAnswer::Read(n) => numbered(rt, b": read,", n as u64),
+        LogAnswer::Refused(q, k) => refused(rt, q, k),
     }
 }
 
-fn refused(number: u8, line: usize) {
-    numbered(b": refused,", number as u64);
-    numbered(b",", line as u64);
+fn refused(rt: &impl Print, number: u8, line: usize) -> io::Result<()> {
+    numbered(rt, b": refused,", number as u64)?;
+    numbered(rt, b",", line as u64)
 }
 
-fn numbered(before: &[u8], number: u64) {
-    io::write_all(1, before);
-    io::print_decimal(1, number);
+fn numbered(rt: &impl Print, before: &[u8], number: u64) -> io::Result<()> {
+    rt.write_all(before)?;
+    rt.print(number)
 }
 
 // The words of a buffer from a place on, and the line's end.
-fn shown(words: &[u32], from: usize) {
-    io::write_all(1, b"; words");
+fn shown(rt: &impl Print, words: &[u32], from: usize) -> io::Result<()> {
+    rt.write_all(b"; words")?;
     let mut i: usize = from;
     while i < words.len() {
-        word(words[i]);
+        word(rt, words[i])?;
         i += 1;
     }
-    io::write_all(1, b"\n");
+    rt.write_all(b"\n")
 }
 
-fn word(w: u32) {
-    numbered(b",", w as u64);
+fn word(rt: &impl Print, w: u32) -> io::Result<()> {
+    numbered(rt, b",", w as u64)
 }

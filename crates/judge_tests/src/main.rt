@@ -6,53 +6,55 @@ mod calls;
 mod show;
 
 use aldlf::{Row, Way};
+use std::io;
 
-fn main() {
-    let mut input = io::large_buffer();
-    let n = io::read_full(libc::STDIN_FILENO, &mut input);
-    each(&input[..n]);
+fn main(rt: HostRuntime) -> io::Result<()> {
+    let mut input = [0u8; cases::INPUT];
+    let n = cases::read_input(&rt, &mut input)?;
+    each(&rt, &input[..n])
 }
 
 // The cases in order, from no bits set in the row in hand.
-fn each(lines: &[u8]) {
+fn each(rt: &impl Print, lines: &[u8]) -> io::Result<()> {
     let mut row = Row {
         bits: [0u16; aldlf::NODES],
     };
     let mut at: usize = 0;
     while at < lines.len() {
-        row = case(text::line_at(lines, at), row);
+        row = case(rt, text::line_at(lines, at), row)?;
         at = cases::past(lines, b'\n', at);
     }
+    Ok(())
 }
 
 // A case's name and its outcome; the row in hand after it.
-fn case(line: &[u8], row: Row) -> Row {
-    show::put(cases::field(line, 1));
-    let next = call(line, row);
-    show::put(b"\n");
-    next
+fn case(rt: &impl Print, line: &[u8], row: Row) -> io::Result<Row> {
+    show::put(rt, cases::field(line, 1))?;
+    let next = call(rt, line, row)?;
+    show::put(rt, b"\n")?;
+    Ok(next)
 }
 
 // The call: a whole log judged, a part looking ahead or back, the plain row or one with all its bits set put in hand, or which ways the
 // rule looks.
-fn call(line: &[u8], row: Row) -> Row {
+fn call(rt: &impl Print, line: &[u8], row: Row) -> io::Result<Row> {
     let letter = cases::letter(line);
     if letter == b'a' {
-        return calls::part(line, Way::Ahead, row);
+        return calls::part(rt, line, Way::Ahead, row);
     }
     if letter == b'b' {
-        return calls::part(line, Way::Back, row);
+        return calls::part(rt, line, Way::Back, row);
     }
     if letter == b'p' {
-        return calls::plain(line, row);
+        return calls::plain(rt, line, row);
     }
     if letter == b'f' {
-        return calls::full();
+        return calls::full(rt);
     }
     if letter == b'l' {
-        calls::looks(line);
-        return row;
+        calls::looks(rt, line)?;
+        return Ok(row);
     }
-    calls::whole(line);
-    row
+    calls::whole(rt, line)?;
+    Ok(row)
 }

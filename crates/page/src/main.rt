@@ -1,30 +1,36 @@
 // Prints the page of the sheet `rules.txt` and the log `steps.txt` in the folder that it runs in, once both have been read to their ends.
-// A failure to read or to write is one line on standard error.
+// A failure to read or to write is one line on standard error, and the status is then 1.
 #![tactic(auto)]
 
 use files::read_two;
-use libc::STDOUT_FILENO;
+use std::io;
+use std::process::ExitCode;
 
 // One byte more than a text may have: a longer file is then refused by its number.
 const ROOM: usize = text::BYTES + 1;
 
-fn main() {
+fn main(rt: HostRuntime) -> ExitCode {
     let mut rules = [0u8; ROOM];
     let mut steps = [0u8; ROOM];
-    let texts = read_two(b"rules.txt", &mut rules, b"steps.txt", &mut steps);
+    let texts = read_two(&rt, "rules.txt", &mut rules, "steps.txt", &mut steps);
     let n = texts.first;
     let m = texts.second;
-    if texts.read {
-        print_page(&rules[..n], &steps[..m]);
+    if !texts.read {
+        return ExitCode::FAILURE;
+    }
+    match print_page(&rt, &rules[..n], &steps[..m]) {
+        Ok(()) => ExitCode::SUCCESS,
+        Err(e) => {
+            files::fail(&rt, "standard output", &e);
+            ExitCode::FAILURE
+        }
     }
 }
 
 // Prints the page. No page is longer than `out`.
-fn print_page(rules: &[u8], steps: &[u8]) {
+fn print_page(rt: &impl Print, rules: &[u8], steps: &[u8]) -> io::Result<()> {
     let mut out = [0u8; report::BYTES];
     let p = report::page(rules, steps, &mut out);
     let n = p.bytes;
-    if !io::write_all(STDOUT_FILENO, &out[..n]) {
-        os::fail(b"standard output");
-    }
+    rt.write_all(&out[..n])
 }

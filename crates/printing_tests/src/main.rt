@@ -4,64 +4,66 @@
 #![tactic(auto)]
 
 use aldlf::Table;
+use std::io;
 
 // No case lends more places.
 const MOST: usize = 400;
 
-fn main() {
-    let mut input = io::large_buffer();
-    let n = io::read_full(libc::STDIN_FILENO, &mut input);
-    each(&input[..n]);
+fn main(rt: HostRuntime) -> io::Result<()> {
+    let mut input = [0u8; cases::INPUT];
+    let n = cases::read_input(&rt, &mut input)?;
+    each(&rt, &input[..n])
 }
 
 // The cases in order.
-fn each(lines: &[u8]) {
+fn each(rt: &impl Print, lines: &[u8]) -> io::Result<()> {
     let mut at: usize = 0;
     while at < lines.len() {
-        case(text::line_at(lines, at));
+        case(rt, text::line_at(lines, at))?;
         at = cases::past(lines, b'\n', at);
     }
+    Ok(())
 }
 
 // A case's name and its outcome.
-fn case(line: &[u8]) {
-    put(cases::field(line, 0));
-    printed(table(line), cases::number(cases::field(line, 2)));
-    put(b"\n");
+fn case(rt: &impl Print, line: &[u8]) -> io::Result<()> {
+    put(rt, cases::field(line, 0))?;
+    printed(rt, table(line), cases::number(cases::field(line, 2)))?;
+    put(rt, b"\n")
 }
 
 // The table of the case's sheet; of a sheet that is refused, a table all zeros.
 fn table(line: &[u8]) -> Table {
-    let mut bytes = io::buffer();
+    let mut bytes = [0u8; cases::TEXT];
     let n = cases::text_of(line, 1, &mut bytes);
     sheet::read_sheet(&bytes[..n]).table
 }
 
 // Lends so many places.
-fn printed(t: Table, places: usize) {
+fn printed(rt: &impl Print, t: Table, places: usize) -> io::Result<()> {
     let mut out = [b'.'; MOST];
     if places < MOST {
-        print_in(t, &mut out[..places]);
+        print_in(rt, t, &mut out[..places])
     } else {
-        print_in(t, &mut out);
+        print_in(rt, t, &mut out)
     }
 }
 
 // The answer, and the places as they are after it.
-fn print_in(t: Table, out: &mut [u8]) {
+fn print_in(rt: &impl Print, t: Table, out: &mut [u8]) -> io::Result<()> {
     let a = printing::print_rule(t, out);
-    number(a.number as u64);
-    number(a.bytes as u64);
-    put(b" \"");
-    put(out);
-    put(b"\"");
+    number(rt, a.number as u64)?;
+    number(rt, a.bytes as u64)?;
+    put(rt, b" \"")?;
+    put(rt, out)?;
+    put(rt, b"\"")
 }
 
-fn number(n: u64) {
-    put(b" ");
-    io::print_decimal(libc::STDOUT_FILENO, n);
+fn number(rt: &impl Print, n: u64) -> io::Result<()> {
+    put(rt, b" ")?;
+    rt.print(n)
 }
 
-fn put(s: &[u8]) {
-    io::write_all(libc::STDOUT_FILENO, s);
+fn put(rt: &impl Print, s: &[u8]) -> io::Result<()> {
+    rt.write_all(s)
 }

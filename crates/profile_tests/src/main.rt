@@ -8,37 +8,39 @@ mod show;
 mod tables;
 
 use cases::show::put;
+use std::io;
 
-fn main() {
-    let mut input = io::large_buffer();
-    let n = io::read_full(libc::STDIN_FILENO, &mut input);
-    each(&input[..n]);
+fn main(rt: HostRuntime) -> io::Result<()> {
+    let mut input = [0u8; cases::INPUT];
+    let n = cases::read_input(&rt, &mut input)?;
+    each(&rt, &input[..n])
 }
 
 // The cases in order.
-fn each(lines: &[u8]) {
+fn each(rt: &impl Print, lines: &[u8]) -> io::Result<()> {
     let mut at: usize = 0;
     while at < lines.len() {
-        case(text::line_at(lines, at));
+        case(rt, text::line_at(lines, at))?;
         at = cases::past(lines, b'\n', at);
     }
+    Ok(())
 }
 
 // A case's name and its outcome.
-fn case(line: &[u8]) {
-    put(cases::field(line, 1));
-    tried(line);
-    put(b"\n");
+fn case(rt: &impl Print, line: &[u8]) -> io::Result<()> {
+    put(rt, cases::field(line, 1))?;
+    tried(rt, line)?;
+    put(rt, b"\n")
 }
 
 // What is tried: the profile, of a changed table too, the profile of the profile, the profile judged; else whether the sheet is in it.
-fn tried(line: &[u8]) {
+fn tried(rt: &impl Print, line: &[u8]) -> io::Result<()> {
     let t = tables::read(line);
     match cases::letter(line) {
-        b'm' => calls::made(t),
-        b'n' => calls::changed(tables::changed(t, line)),
-        b't' => calls::made(calls::profile_of(t)),
-        b'j' => calls::judged(calls::profile_of(t), line),
-        _ => calls::asked(t),
+        b'm' => calls::made(rt, t),
+        b'n' => calls::changed(rt, tables::changed(t, line)),
+        b't' => calls::made(rt, calls::profile_of(t)),
+        b'j' => calls::judged(rt, calls::profile_of(t), line),
+        _ => calls::asked(rt, t),
     }
 }

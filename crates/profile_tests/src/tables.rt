@@ -3,7 +3,7 @@ use aldlf::{NodeLine, Table, Used};
 
 // The table of the case's sheet.
 pub(crate) fn read(line: &[u8]) -> Table {
-    let mut bytes = io::buffer();
+    let mut bytes = [0u8; cases::TEXT];
     let n = cases::text_of(line, 2, &mut bytes);
     sheet::read_sheet(&bytes[..n]).table
 }

@@ -6,67 +6,70 @@ mod tables;
 
 use aldlf::Table;
 use sheet::SheetAnswer;
+use std::io;
 
-fn main() {
-    let mut buffer = io::large_buffer();
-    let n = io::read_full(0, &mut buffer);
-    each(&buffer[..n]);
+fn main(rt: HostRuntime) -> io::Result<()> {
+    let mut buffer = [0u8; cases::INPUT];
+    let n = cases::read_input(&rt, &mut buffer)?;
+    each(&rt, &buffer[..n])
 }
 
-fn each(cases: &[u8]) {
+fn each(rt: &impl Print, cases: &[u8]) -> io::Result<()> {
     let mut at: usize = 0;
     while at < cases.len() {
-        tried(text::line_at(cases, at));
+        tried(rt, text::line_at(cases, at))?;
         at = cases::past(cases, b'\n', at);
     }
+    Ok(())
 }
 
 // Prints a case's name and its outcome.
-fn tried(line: &[u8]) {
-    io::write_all(1, cases::field(line, 1));
-    io::write_all(1, b":");
+fn tried(rt: &impl Print, line: &[u8]) -> io::Result<()> {
+    rt.write_all(cases::field(line, 1))?;
+    rt.write_all(b":")?;
     if cases::letter(line) == b's' {
-        said(line);
+        said(rt, line)?;
     } else {
-        tables::tried(line);
+        tables::tried(rt, line)?;
     }
-    io::write_all(1, b"\n");
+    rt.write_all(b"\n")
 }
 
 // What reading a case's sheet answers.
 fn answer(line: &[u8]) -> SheetAnswer {
-    let mut text = io::large_buffer();
+    let mut text = [0u8; cases::INPUT];
     let n = cases::put_text(cases::field(line, 2), &mut text);
     sheet::read_sheet(&text[..n])
 }
 
 // Prints the answer's number, line and field, and the counts of an accepted sheet.
-fn said(line: &[u8]) {
+fn said(rt: &impl Print, line: &[u8]) -> io::Result<()> {
     let a = answer(line);
-    numbered(a.number, a.line, a.field);
+    numbered(rt, a.number, a.line, a.field)?;
     if a.number == 0 {
         let t = a.table;
-        used(t);
+        used(rt, t)?;
     }
+    Ok(())
 }
 
-fn used(t: Table) {
-    counted(t.used.nodes, t.used.automata, t.used.edges);
+fn used(rt: &impl Print, t: Table) -> io::Result<()> {
+    counted(rt, t.used.nodes, t.used.automata, t.used.edges)
 }
 
-fn numbered(number: u8, line: u16, field: u8) {
-    labelled(b" ", number as u64);
-    labelled(b",", line as u64);
-    labelled(b",", field as u64);
+fn numbered(rt: &impl Print, number: u8, line: u16, field: u8) -> io::Result<()> {
+    labelled(rt, b" ", number as u64)?;
+    labelled(rt, b",", line as u64)?;
+    labelled(rt, b",", field as u64)
 }
 
-fn counted(nodes: u8, automata: u8, edges: u16) {
-    labelled(b" nodes ", nodes as u64);
-    labelled(b" automata ", automata as u64);
-    labelled(b" edges ", edges as u64);
+fn counted(rt: &impl Print, nodes: u8, automata: u8, edges: u16) -> io::Result<()> {
+    labelled(rt, b" nodes ", nodes as u64)?;
+    labelled(rt, b" automata ", automata as u64)?;
+    labelled(rt, b" edges ", edges as u64)
 }
 
-fn labelled(label: &[u8], number: u64) {
-    io::write_all(1, label);
-    io::print_decimal(1, number);
+fn labelled(rt: &impl Print, label: &[u8], number: u64) -> io::Result<()> {
+    rt.write_all(label)?;
+    rt.print(number)
 }

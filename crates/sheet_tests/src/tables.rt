@@ -2,36 +2,37 @@
 // node: its place, letter, a, b; edge: its place, from, direction, test, to; counts: a node as above, then how many nodes, automata, edges;
 // automaton: its place, states, start, accepting, first, count, before.
 use aldlf::{Automaton, Edge, Node, NodeLine, State, Table, Used};
+use std::io;
 
 // Prints whether some sheet gives a sheet's table, or that table with a change; of one that is read also what it holds.
-pub(crate) fn tried(line: &[u8]) {
+pub(crate) fn tried(rt: &impl Print, line: &[u8]) -> io::Result<()> {
     let a = super::answer(line);
     let t = a.table;
     if cases::letter(line) == b'r' {
-        super::used(t);
-        first(t);
+        super::used(rt, t)?;
+        first(rt, t)?;
     }
-    given(sheet::is_given(changed(line, t)));
+    given(rt, sheet::is_given(changed(line, t)))
 }
 
-fn given(yes: bool) {
+fn given(rt: &impl Print, yes: bool) -> io::Result<()> {
     if yes {
-        io::write_all(1, b" given");
+        rt.write_all(b" given")
     } else {
-        io::write_all(1, b" not given");
+        rt.write_all(b" not given")
     }
 }
 
 // Prints node 0's numbers.
-fn first(t: Table) {
+fn first(rt: &impl Print, t: Table) -> io::Result<()> {
     let x = t.nodes[0];
-    held(x.kind, x.a, x.b);
+    held(rt, x.kind, x.a, x.b)
 }
 
-fn held(kind: u8, a: u8, b: u8) {
-    super::labelled(b" node 0 ", kind as u64);
-    super::labelled(b",", a as u64);
-    super::labelled(b",", b as u64);
+fn held(rt: &impl Print, kind: u8, a: u8, b: u8) -> io::Result<()> {
+    super::labelled(rt, b" node 0 ", kind as u64)?;
+    super::labelled(rt, b",", a as u64)?;
+    super::labelled(rt, b",", b as u64)
 }
 
 // The table with the change that a line asks for: a node, an edge, an automaton, or a node and the counts; or one all of the greatest numbers.

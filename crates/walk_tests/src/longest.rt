@@ -3,24 +3,25 @@
 // entry, and so on: the sweep of state s is edge 2s and the test edge after it 2s + 1. State 15 accepts, and the first entry is the
 // goal. No configuration has two ways on.
 use super::{calls, show};
+use std::io;
 
 // Asks for it in the first places of 8,192. Fact 0 is at the first entry and fact 1 at the last.
-pub(crate) fn walk(line: &[u8]) {
+pub(crate) fn walk(rt: &impl Print, line: &[u8]) -> io::Result<()> {
     let mut log = [0u32; aldlf::ENTRIES];
     log[0] = 1;
     log[511] = 2;
     let mut edges = [999u16; 8192];
-    calls::walk_in(line, &log, &mut edges);
-    counted(&edges);
+    calls::walk_in(rt, line, &log, &mut edges)?;
+    counted(rt, &edges)
 }
 
 // Shows how many places hold the walk's edge, and how many are as lent.
-fn counted(edges: &[u16]) {
-    io::write_all(1, b", right");
-    show::number(right(edges) as u64);
-    io::write_all(1, b", as lent");
-    show::number(kept(edges) as u64);
-    io::write_all(1, b"\n");
+fn counted(rt: &impl Print, edges: &[u16]) -> io::Result<()> {
+    rt.write_all(b", right")?;
+    show::number(rt, right(edges) as u64)?;
+    rt.write_all(b", as lent")?;
+    show::number(rt, kept(edges) as u64)?;
+    rt.write_all(b"\n")
 }
 
 // How many places hold the edge that the walk has there: 511 sweeping edges and a test edge for each state.

@@ -6,28 +6,31 @@ mod calls;
 mod longest;
 mod show;
 
-fn main() {
-    let mut input = io::large_buffer();
-    let n = io::read_full(0, &mut input);
-    each(&input[..n]);
-    calls::shorter();
+use std::io;
+
+fn main(rt: HostRuntime) -> io::Result<()> {
+    let mut input = [0u8; cases::INPUT];
+    let n = cases::read_input(&rt, &mut input)?;
+    each(&rt, &input[..n])?;
+    calls::shorter(&rt)
 }
 
 // The cases in order.
-fn each(lines: &[u8]) {
+fn each(rt: &impl Print, lines: &[u8]) -> io::Result<()> {
     let mut at: usize = 0;
     while at < lines.len() {
-        case(text::line_at(lines, at));
+        case(rt, text::line_at(lines, at))?;
         at = cases::past(lines, b'\n', at);
     }
+    Ok(())
 }
 
 // A case's name and its outcome: a walk, or the longest one.
-fn case(line: &[u8]) {
-    io::write_all(1, cases::field(line, 1));
+fn case(rt: &impl Print, line: &[u8]) -> io::Result<()> {
+    rt.write_all(cases::field(line, 1))?;
     if cases::letter(line) == b'w' {
-        calls::walk(line);
+        calls::walk(rt, line)
     } else {
-        longest::walk(line);
+        longest::walk(rt, line)
     }
 }

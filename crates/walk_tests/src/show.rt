@@ -1,33 +1,34 @@
 // What is printed of an outcome.
+use std::io;
 use walk::WalkAnswer;
 
 // The answer by its case.
-pub(crate) fn answer(r: WalkAnswer) {
+pub(crate) fn answer(rt: &impl Print, r: WalkAnswer) -> io::Result<()> {
     match r {
         WalkAnswer::Shown(n) => {
-            io::write_all(1, b" shown");
-            number(n as u64);
+            rt.write_all(b" shown")?;
+            number(rt, n as u64)
         }
         WalkAnswer::Refused(q) => {
-            io::write_all(1, b" refused");
-            number(q as u64);
+            rt.write_all(b" refused")?;
+            number(rt, q as u64)
         }
     }
 }
 
 // The numbers of a slice, and the line's end.
-pub(crate) fn places(edges: &[u16]) {
+pub(crate) fn places(rt: &impl Print, edges: &[u16]) -> io::Result<()> {
     let mut i: usize = 0;
     while i < edges.len() {
-        number(wide(edges[i]));
+        number(rt, wide(edges[i]))?;
         i += 1;
     }
-    io::write_all(1, b"\n");
+    rt.write_all(b"\n")
 }
 
-pub(crate) fn number(n: u64) {
-    io::write_all(1, b" ");
-    io::print_decimal(1, n);
+pub(crate) fn number(rt: &impl Print, n: u64) -> io::Result<()> {
+    rt.write_all(b" ")?;
+    rt.print(n)
 }
 
 fn wide(x: u16) -> u64 {
