@@ -4,7 +4,7 @@ use mathlib.Core.Path.{◌≡◌}
 use mathlib.Core.List.{List, [], ◌∷◌, ◌++◌}
 use native.Mathlib.Omega.{arith}
 use lib.ListN.{length, length-append}
-use Rattle.formula.specs.Formula.{Formula, Path}
+use Rattle.formula.specs.Formula.{Formula}
 use Rattle.formula.specs.Grammar.{Writes}
 use Rattle.formula.specs.Code.{code, code_in, code_keep, code_and, code_or, code_apply, code_some, code_every, code_step, code_keep_part, code_seq, code_alt, code_many}
 use Rattle.formula.specs.Signs.{sign_or, sign_and, sign_alt, sign_seq, sign_star, sign_back, sign_test, round_close, curly_close, angle_close, square_close}

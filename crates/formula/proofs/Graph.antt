@@ -193,6 +193,7 @@ module _ (log : List ℕ) (H : Values) (zeroth : (i : ℕ) → H 0 i) where
 
   edge_in : (p : Path) (k b s i t h : ℕ) → Go k b p s i t h → In b (states p) t
   edge_in (step d a) k b s i t h (inl g) = let e : suc b ≡ t = g.comes in omega arith
+  edge_in (step d a) k b s i t h (inr z) = elim z [ ]
   edge_in (seq p q) k b s i t h z = cases (split_edge (edges k b p) (edges (k + within p) (b + states p) q) (seq_links b p q) s i t h z) (edge_in p k b s i t h) (edge_in q (k + within p) (b + states p) s i t h)
     where
       cases : Go k b p s i t h ⊎ (Go (k + within p) (b + states p) q s i t h ⊎ ByEdge H (length log) (seq_links b p q) s i t h)
@@ -200,6 +201,7 @@ module _ (log : List ℕ) (H : Values) (zeroth : (i : ℕ) → H 0 i) where
       cases (inl y) f g = let w = f y in omega arith
       cases (inr (inl y)) f g = let w = g y in omega arith
       cases (inr (inr (inl y))) f g = let w = entry_in q (b + states p) in link_in _ _ s i t h b _ (omega arith) y
+      cases (inr (inr (inr y))) f g = elim y [ ]
   edge_in (alt p q) k b s i t h z = cases (split_edge (edges k b p) (edges (k + within p) (b + states p) q) (alt_links b p q) s i t h z) (edge_in p k b s i t h) (edge_in q (k + within p) (b + states p) s i t h)
     where
       cases : Go k b p s i t h ⊎ (Go (k + within p) (b + states p) q s i t h ⊎ ByEdge H (length log) (alt_links b p q) s i t h)
@@ -210,6 +212,7 @@ module _ (log : List ℕ) (H : Values) (zeroth : (i : ℕ) → H 0 i) where
       cases (inr (inr (inr (inl y)))) f g = let w = entry_in q (b + states p) in link_in _ _ s i t h b _ (omega arith) y
       cases (inr (inr (inr (inr (inl y))))) f g = link_in _ _ s i t h b _ (omega arith) y
       cases (inr (inr (inr (inr (inr (inl y)))))) f g = link_in _ _ s i t h b _ (omega arith) y
+      cases (inr (inr (inr (inr (inr (inr y)))))) f g = elim y [ ]
   edge_in (many p) k b s i t h z = cases (some_append (Goes (length log) H s i t h) (edges k b p) (many_links b p) z) (edge_in p k b s i t h)
     where
       cases : Go k b p s i t h ⊎ ByEdge H (length log) (many_links b p) s i t h → (Go k b p s i t h → In b (states p) t) → In b (states (many p)) t
@@ -218,6 +221,7 @@ module _ (log : List ℕ) (H : Values) (zeroth : (i : ℕ) → H 0 i) where
       cases (inr (inr (inl y))) f = let w = entry_in p b in link_in _ _ s i t h b _ (omega arith) y
       cases (inr (inr (inr (inl y)))) f = link_in _ _ s i t h b _ (omega arith) y
       cases (inr (inr (inr (inr (inl y))))) f = link_in _ _ s i t h b _ (omega arith) y
+      cases (inr (inr (inr (inr (inr y))))) f = elim y [ ]
 
   -- what holds along a link
   along : (Q : ℕ → ℕ → Type 0) (s₀ t₀ s i t h : ℕ) → (Q t₀ i → Q s₀ i) → Goes (length log) H s i t h (link s₀ t₀) → Q t h → Q s i
@@ -239,6 +243,7 @@ module _ (log : List ℕ) (H : Values) (zeroth : (i : ℕ) → H 0 i) where
     keeps_seq s i t h j (inr (inl y)) (inl (x, f, r)) =
         let u = edge_in q (k + within p) (b + states p) s i t h y in let v = from_in p b t h x f in absurd (omega arith)
     keeps_seq s i t h j (inr (inl y)) (inr f) = inr (keep' s i t h j y f)
+    keeps_seq s i t h j (inr (inr (inr y))) z = elim y [ ]
     keeps_seq s i t h j (inr (inr (inl y))) z = along (λ u v. From (seq p q) b u v j) (exit b p) (entry (b + states p) q) s i t h go_on y z
       where
         go_on : From (seq p q) b (entry (b + states p) q) i j → From (seq p q) b (exit b p) i j
@@ -283,6 +288,7 @@ module _ (log : List ℕ) (H : Values) (zeroth : (i : ℕ) → H 0 i) where
         along (λ u v. From (alt p q) b u v j) _ _ s i t h (λ f. inr (inr (inl (at_end p b i j (alt_end i j f))))) y z
     keeps_alt s i t h j (inr (inr (inr (inr (inr (inl y)))))) z =
         along (λ u v. From (alt p q) b u v j) _ _ s i t h (λ f. inr (inr (inr (at_end q (b + states p) i j (alt_end i j f))))) y z
+    keeps_alt s i t h j (inr (inr (inr (inr (inr (inr y)))))) z = elim y [ ]
 
   module _ (p : Path) (k b : ℕ) (keep : Keeps p k b) where
     many_start : (i j : ℕ) → From (many p) b (entry b p) i j → Many (Runs p log) i j
@@ -306,11 +312,13 @@ module _ (log : List ℕ) (H : Values) (zeroth : (i : ℕ) → H 0 i) where
     keeps_many s i t h j (inr (inr (inl y))) z = along (λ u v. From (many p) b u v j) _ _ s i t h (λ f. inr (inr (i, from_exit p b i, many_start i j f))) y z
     keeps_many s i t h j (inr (inr (inr (inl y)))) z = along (λ u v. From (many p) b u v j) _ _ s i t h (λ f. inr (inr (i, from_exit p b i, none i j (many_end i j f)))) y z
     keeps_many s i t h j (inr (inr (inr (inr (inl y))))) z = along (λ u v. From (many p) b u v j) _ _ s i t h (λ f. inl (refl, none i j (many_end i j f))) y z
+    keeps_many s i t h j (inr (inr (inr (inr (inr y))))) z = elim y [ ]
 
   keeps : (p : Path) (k b : ℕ) → NodesRight p log H k → (s i t h j : ℕ) → Go k b p s i t h → From p b t h j → From p b s i j
   keeps (step d a) k b r s i t h j (inl g) (inl (e, x)) = let c : suc b ≡ t = g.comes in absurd (omega arith)
   keeps (step d a) k b r s i t h j (inl g) (inr (e, x)) =
       inl (sym g.leaves, ((r i).0 g.holds, subst (λ (z : ℕ). Moves (length log) d i z) x (subst (λ (z : Dir). Moves (length log) z i h) (dir_back d) g.moves)))
+  keeps (step d a) k b r s i t h j (inr z) f = elim z [ ]
   keeps (seq p q) k b r s i t h j z f =
       keeps_seq p q k b (keeps p k b r.0) (keeps q (k + within p) (b + states p) r.1) s i t h j (split_edge (edges k b p) (edges (k + within p) (b + states p) q) (seq_links b p q) s i t h z) f
   keeps (alt p q) k b r s i t h j z f =

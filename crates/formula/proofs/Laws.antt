@@ -32,6 +32,7 @@ module _ {A : Type 0} (Q : A → Type 0) where
   some_append (x ∷ xs) ys (inr h) = ⊎_elim (λ z. inl (inr z)) (λ z. inr z) (some_append xs ys h)
 
   pub some_left : (xs ys : List A) → Some Q xs → Some Q (xs ++ ys)
+  some_left [] ys h = elim h [ ]
   some_left (x ∷ xs) ys (inl h) = inl h
   some_left (x ∷ xs) ys (inr h) = inr (some_left xs ys h)
 
@@ -45,6 +46,7 @@ module _ {A : Type 0} (Q : A → Type 0) where
   some_at d (y ∷ l) (suc x) h q = inr (some_at d l x (omega arith) q)
 
   pub at_some : (d : A) (l : List A) → Some Q l → (x : ℕ) × (x < length l) × Q (get_or l x d)
+  at_some d [] q = elim q [ ]
   at_some d (y ∷ l) (inl q) = (0, omega arith, q)
   at_some d (y ∷ l) (inr q) = let r = at_some d l q in (suc r.0, (let h = r.1 in omega arith), r.2)
 
