@@ -1,0 +1,14 @@
+use Prim.Native.Nat.{◌*◌, ◌-◌, ◌≤◌}
+use Rattle.aldlf.specs.Constants.{node_limit}
+use Rattle.aldlf.specs.Sheet.{no_line}
+use Rattle.crossing.proofs.Lent.{SoFar}
+use Rattle.crossing.specs.Numbers.{line_size, line_at, line_fits}
+use Rattle.crossing.specs.Steps.{line_cut}
+use Rattle.packing.specs.Numbers.{lines_place, line_in}
+use Rattle.crossing.proofs.lending.lend_first_lines.Given as goal
+
+abbrev pub invariant-loop-k : goal.invariant-loop-k
+invariant-loop-k l = (l.k ≤ l.n) × SoFar line_fits line_in line_cut (λ i. line_at l.xs (line_size * i)) no_line lines_place node_limit l.k l.fit l.initial.numbers l.numbers
+
+abbrev pub decreases-loop-k : goal.decreases-loop-k
+decreases-loop-k l = l.n - l.k
