@@ -1,5 +1,5 @@
 -- What a formula makes is its table where the sheet made of it is within the limits, and else a limit is passed. By induction over the formula: each question of room that gets a no is a limit that the sheet would pass.
-use Prim.Native.Nat.{ℕ, suc, ◌+◌, ◌-◌, ◌≤◌, ◌<◌, max}
+use Prim.Native.Nat.{ℕ, suc, ◌+◌, ◌≤◌, ◌<◌, max}
 use mathlib.Core.Path.{◌≡◌}
 use mathlib.Core.List.{List, ◌++◌}
 use mathlib.Core.Logic.{◌⊎◌, inl, inr, ⊎_elim}

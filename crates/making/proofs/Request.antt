@@ -7,7 +7,7 @@ use mathlib.Core.Logic.{⊎_elim}
 use native.Mathlib.Omega.{arith}
 use Rattle.sheet.specs.Questions.{with_node, empty_table}
 use Rattle.formula.specs.Formula.{Formula}
-use Rattle.formula.specs.Numbering.{made, first_table, table_of}
+use Rattle.formula.specs.Numbering.{first_table, table_of}
 use Rattle.formula.specs.Outcome.{fits_sheet}
 use Rattle.formula.specs.Counts.{Within}
 use Rattle.formula.specs.Code.{code}

@@ -1,0 +1,11 @@
+-- `kept_in` meets its contract: the bytes of the edge in the number. Assumes nothing.
+use mathlib.Core.Path.{ap}
+use Rattle.aldlf.specs.declared.Edge.{Edge}
+use Rattle.making.specs.declared.stack.Kept.{Kept}
+use Rattle.making.proofs.stack.kept_in.Goals as goal
+
+abbrev keptBack : Edge → Kept
+keptBack e = record { a = e.from.0; b = e.dir; c = e.test.0; d = e.to.0 }
+
+pub returns : goal.returns
+returns c = ap (λ (e : Edge). keptBack e) c.edge_in-e.ensures
