@@ -6,10 +6,8 @@ use Rattle.making.proofs.drawing.step.Goals as goal
 pub returns-then-s-lt15 : goal.returns-then-s-lt15
 returns-then-s-lt15 c =
     let a = c.args in
-    let if1 = c.if-s-lt15 in
     let newest = c.newest in
-    let put-link = c.put_link-x in
-    step-drawn a.c c.with_ends.result a.links.now put-link.new.links a.dir newest.result newest.ensures if1.true (drawn_ends c.with_ends.result (a.c.states + 2) (record { 0 = a.c.states }) (record { 0 = a.c.states + 1 }) put-link.ensures c.with_ends.ensures)
+    step-drawn a.c c.with_ends.result a.links.now c.put_link-x.new.links a.dir newest.result newest.ensures c.if-s-lt15.true (drawn_ends c.with_ends.result (a.c.states + 2) (record { 0 = a.c.states }) (record { 0 = a.c.states + 1 }) c.put_link-x.ensures c.with_ends.ensures)
 
 pub returns : goal.returns
 returns c =

@@ -11,6 +11,5 @@ overflow_sub-result c = let h = (room_is c.args.c c.requires).base in omega arit
 
 pub returns : goal.returns
 returns c =
-    let a = c.args in
     let power = c.power-p in
-    automaton_by a.c power.result power.ensures
+    automaton_by c.args.c power.result power.ensures

@@ -12,41 +12,15 @@ use Rattle.making.proofs.ending.end_path.Goals as goal
 
 pub overflow_sub-c : goal.overflow_sub-c
 overflow_sub-c c =
-    let a = c.args in
-    let has_room = c.has_room in
-    let if1 = c.if-has_room in
-    (room_yes a.c has_room.result has_room.ensures if1.true).base
-
-pub move_links-requires : goal.move_links-requires
-move_links-requires c =
-    let a = c.args in
-    let pre = c.requires in
-    let has_room = c.has_room in
-    let if1 = c.if-has_room in
-    let h = room_yes a.c has_room.result has_room.ensures if1.true in (omega (arith, pre.1), omega (arith, pre.1), pre.2)
-
-pub automaton_of-automaton-requires : goal.automaton_of-automaton-requires
-automaton_of-automaton-requires c = sym c.has_room.ensures ∙ c.if-has_room.true
-
-pub overflow_add-rest : goal.overflow_add-rest
-overflow_add-rest c = omega (arith, c.below-rest.ensures.1, c.requires.0, c.well_formed.1.0)
-
-pub resumed-counts-requires : goal.resumed-counts-requires
-resumed-counts-requires c = (sym c.has_room.ensures ∙ c.if-has_room.true, c.requires.1)
+    (room_yes c.args.c c.has_room.result c.has_room.ensures c.if-has_room.true).base
 
 pub returns-then-has_room : goal.returns-then-has_room
 returns-then-has_room c =
     let a = c.args in
     let pre = c.requires in
-    let has_room = c.has_room in
-    let if1 = c.if-has_room in
-    let last-kept = c.last_kept-frame in
     let below = c.below-rest in
-    let move-links = c.move_links in
-    let letter-of = c.letter_of in
     let push = c.push in
-    let automaton-of = c.automaton_of-automaton in
-    path_ended a.c a.links.now pre.2 pre.1 a.edges.now move-links.new.edges last-kept.result (below.result + 1) (sym has_room.ensures ∙ if1.true) move-links.ensures c.resumed-counts.result automaton-of.result a.op a.stack.now push.new.stack c.resumed-counts.ensures automaton-of.ensures last-kept.ensures (push.ensures ∙ ap (λ (l : ℕ). mark_kept l a.c.automata ∷ kept_of a.stack.now below.result) letter-of.ensures ∙ ap (λ (s : List Kept). mark_kept (letter_of a.op) a.c.automata ∷ s) (below.ensures.0 a.stack.now)) (omega (arith, below.ensures.1))
+    path_ended a.c a.links.now pre.2 pre.1 a.edges.now c.move_links.new.edges c.last_kept-frame.result (below.result + 1) (sym c.has_room.ensures ∙ c.if-has_room.true) c.move_links.ensures c.resumed-counts.result c.automaton_of-automaton.result a.op a.stack.now push.new.stack c.resumed-counts.ensures c.automaton_of-automaton.ensures c.last_kept-frame.ensures (push.ensures ∙ ap (λ (l : ℕ). mark_kept l a.c.automata ∷ kept_of a.stack.now below.result) c.letter_of.ensures ∙ ap (λ (s : List Kept). mark_kept (letter_of a.op) a.c.automata ∷ s) (below.ensures.0 a.stack.now)) (omega (arith, below.ensures.1))
 
 pub returns : goal.returns
 returns c =

@@ -5,35 +5,8 @@ use mathlib.Core.List.{List}
 use native.Mathlib.Omega.{arith}
 use lib.ListN.{take, drop, set, get_or}
 use lib.Seq.{sets}
-use Rattle.making.proofs.Lists.{write_one, none_yet}
+use Rattle.making.proofs.Lists.{write_one}
 use Rattle.making.proofs.ending.move_links.Goals as goal
-
-pub loop-i-init : goal.loop-i-init
-loop-i-init c = (none_yet c.args.edges.now c.args.first (drop c.args.base c.args.links.now), omega arith)
-
-pub overflow_add-edges : goal.overflow_add-edges
-overflow_add-edges c = let h = c.loop-i.invariant in omega (arith, c.requires)
-
-pub offset_bounds-links-base : goal.offset_bounds-links-base
-offset_bounds-links-base c = let h = c.loop-i.invariant in omega (arith, c.requires)
-
-pub bounds-links-base : goal.bounds-links-base
-bounds-links-base c = let h = c.loop-i.invariant in omega (arith, c.requires)
-
-pub overflow_add-edges-in-loop-i : goal.overflow_add-edges-in-loop-i
-overflow_add-edges-in-loop-i c = let h = c.loop-i.invariant in omega (arith, c.requires)
-
-pub offset_bounds-edges-first : goal.offset_bounds-edges-first
-offset_bounds-edges-first c = let h = c.loop-i.invariant in omega (arith, c.requires)
-
-pub bounds-edges-first : goal.bounds-edges-first
-bounds-edges-first c = let h = c.loop-i.invariant in omega (arith, c.requires)
-
-pub overflow_add-i : goal.overflow_add-i
-overflow_add-i c = let h = c.loop-i.invariant in omega (arith, c.requires)
-
-pub loop-i-smaller : goal.loop-i-smaller
-loop-i-smaller c = let h = c.loop-i.invariant in omega (arith, c.requires)
 
 pub loop-i-preserved : goal.loop-i-preserved
 loop-i-preserved c =

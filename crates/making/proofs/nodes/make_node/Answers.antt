@@ -15,28 +15,20 @@ returns-then-op-eq84 c =
 pub returns-then-op-eq38 : goal.returns-then-op-eq38
 returns-then-op-eq38 c =
     let a = c.args in
-    let last-kept = c.last_kept-k in
     let below = c.below in
-    let with-top = c.with_top-d in
     let newest = c.newest in
-    and_made a.c c.put_pair.result a.stack.now a.lines.now c.put_pair.new.lines a.op last-kept.result below.result newest.result newest.ensures last-kept.ensures (below.ensures.0 a.stack.now) below.ensures.1 c.if-op-eq38.true (rw with-top.ensures at c.put_pair.ensures)
+    and_made a.c c.put_pair.result a.stack.now a.lines.now c.put_pair.new.lines a.op c.last_kept-k.result below.result newest.result newest.ensures c.last_kept-k.ensures (below.ensures.0 a.stack.now) below.ensures.1 c.if-op-eq38.true (rw c.with_top-d.ensures at c.put_pair.ensures)
 
 pub returns-then-op-eq124 : goal.returns-then-op-eq124
 returns-then-op-eq124 c =
     let a = c.args in
-    let last-kept = c.last_kept-k in
     let below = c.below in
-    let with-top = c.with_top-d in
     let newest = c.newest in
-    or_made a.c c.put_pair-then-op-eq124.result a.stack.now a.lines.now c.put_pair-then-op-eq124.new.lines a.op last-kept.result below.result newest.result newest.ensures last-kept.ensures (below.ensures.0 a.stack.now) below.ensures.1 c.if-op-eq124.true (rw with-top.ensures at c.put_pair-then-op-eq124.ensures)
+    or_made a.c c.put_pair-then-op-eq124.result a.stack.now a.lines.now c.put_pair-then-op-eq124.new.lines a.op c.last_kept-k.result below.result newest.result newest.ensures c.last_kept-k.ensures (below.ensures.0 a.stack.now) below.ensures.1 c.if-op-eq124.true (rw c.with_top-d.ensures at c.put_pair-then-op-eq124.ensures)
 
 pub returns : goal.returns
 returns c =
     let a = c.args in
-    let if1 = c.if-op-lt32 in
-    let if2 = c.if-op-eq84 in
-    let last-kept = c.last_kept-k in
     let below = c.below in
-    let with-top = c.with_top-d in
     let newest = c.newest in
-    under_made a.c c.put_under.result a.stack.now a.lines.now c.put_under.new.lines a.op last-kept.result below.result newest.result newest.ensures last-kept.ensures (below.ensures.0 a.stack.now) below.ensures.1 if1.false if2.false c.if-op-eq38.false c.if-op-eq124.false (rw with-top.ensures at c.put_under.ensures)
+    under_made a.c c.put_under.result a.stack.now a.lines.now c.put_under.new.lines a.op c.last_kept-k.result below.result newest.result newest.ensures c.last_kept-k.ensures (below.ensures.0 a.stack.now) below.ensures.1 c.if-op-lt32.false c.if-op-eq84.false c.if-op-eq38.false c.if-op-eq124.false (rw c.with_top-d.ensures at c.put_under.ensures)

@@ -5,8 +5,7 @@ use Rattle.making.proofs.nodes.put_line.Goals as goal
 pub returns-then-n-lt-NODES : goal.returns-then-n-lt-NODES
 returns-then-n-lt-NODES c =
     let a = c.args in
-    let packed-line = c.packed_line in
-    lined_yes a.c a.lines.now a.x packed-line.result c.if-n-lt-NODES.true packed-line.ensures
+    lined_yes a.c a.lines.now a.x c.packed_line.result c.if-n-lt-NODES.true c.packed_line.ensures
 
 pub returns : goal.returns
 returns c =

@@ -4,8 +4,8 @@ use Rattle.aldlf.specs.declared.Edge.{Edge}
 use Rattle.making.specs.declared.stack.Kept.{Kept}
 use Rattle.making.proofs.stack.kept_in.Goals as goal
 
-abbrev keptBack : Edge → Kept
-keptBack e = record { a = e.from.0; b = e.dir; c = e.test.0; d = e.to.0 }
+abbrev kept_back : Edge → Kept
+kept_back e = record { a = e.from.0; b = e.dir; c = e.test.0; d = e.to.0 }
 
 pub returns : goal.returns
-returns c = ap (λ (e : Edge). keptBack e) c.edge_in-e.ensures
+returns c = ap (λ (e : Edge). kept_back e) c.edge_in-e.ensures
