@@ -1,9 +1,9 @@
 -- `add_edges` meets its contract: one edge more at each turn. Assumes nothing.
 use Prim.Native.Nat.{ℕ, ◌+◌, ◌<◌}
 use Rattle.reach.proofs.Made.{apart_none, apart_set, group_lt, held_next, held_none}
-use Rattle.reach.specs.Columns.{column_of, Apart, Held}
+use Rattle.reach.specs.Columns.{column_of, Held}
 use Rattle.reach.specs.Marks.{at, paired, dir_in}
-use mathlib.Core.Path.{sym, subst}
+use mathlib.Core.Path.{subst}
 use native.Mathlib.Omega.{arith}
 use Rattle.reach.proofs.steps.add_edges.Goals as goal
 
@@ -24,7 +24,7 @@ loop-e-preserved c =
     let r = c.add_edge.ensures in
     let column_in : column_of (at E l.e) < 48 = omega (arith, group_lt (dir_in (at E l.e)), (c.requires.edges_fit.each l.e h).to_fits) in (
       omega (arith, h),
-      subst (Apart p (p + 48) c.args.steps.now) (sym r) (apart_set p (p + 48) _ l.steps (p + column_of (at E l.e)) _ l.invariant.1 (omega arith) (omega arith)),
+      rw r (apart_set p (p + 48) _ l.steps (p + column_of (at E l.e)) _ l.invariant.1 (omega arith) (omega arith)),
       held_next E c.requires.edges_fit (at (paired c.args.words.now) c.args.i) l.e h l.steps p (omega (arith, l.invariant.1.same, c.requires.i_in_bounds.1)) l.invariant.2 _ r,
     )
 
