@@ -1,5 +1,5 @@
 -- The steps at hand: whose they are when a node is judged, and that they serve the nodes after it, because an automaton's edges test only nodes above it.
-use Rattle.core.specs.Prelude.{◌≡◌, ℕ, ◌+◌, ◌*◌, ◌<◌, ◌≤◌, true, false, List, length}
+use Rattle.std.specs.Prelude.{◌≡◌, ℕ, ◌+◌, ◌*◌, ◌<◌, ◌≤◌, true, false, List, length}
 use native.Mathlib.Omega.{arith}
 use mathlib.Core.Path.{sym, subst, ap, ◌∙◌}
 use mathlib.Core.Bool.{true≢false}

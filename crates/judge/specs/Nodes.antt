@@ -1,5 +1,5 @@
 -- Helper definitions that only the proofs of the code need: a node judged from the words of those before it, and what is known on the way.
-use Rattle.core.specs.Prelude.{◌≡◌, ℕ, suc, ◌+◌, ◌-◌, ◌*◌, ◌%◌, ◌^◌, ◌<◌, ◌≤◌, Bool, true, false, not, ◌&&◌, ◌||◌, ◌⊎◌, List, ◌++◌, length, take, drop, ◌==◌, nat_eq, slice_index}
+use Rattle.std.specs.Prelude.{◌≡◌, ℕ, suc, ◌+◌, ◌-◌, ◌*◌, ◌%◌, ◌^◌, ◌<◌, ◌≤◌, Bool, true, false, not, ◌&&◌, ◌||◌, ◌⊎◌, List, ◌++◌, length, take, drop, ◌==◌, nat_eq, slice_index}
 use Rattle.aldlf.specs.Constants.{node_limit, word_bits, automaton_limit, state_limit, letter_p, letter_n, letter_a, letter_o, letter_d, letter_b}
 use Rattle.aldlf.specs.Sheet.{Sheet, Line, T, F, P, N, A, O, D, B, bit, sheet_of}
 use Rattle.aldlf.specs.Parts.{Bits, row_entry, counts}

@@ -1,5 +1,5 @@
 -- A table lent as numbers and prepared for many logs.
-use Rattle.core.specs.Prelude.{◌≡◌, ℕ, List}
+use Rattle.std.specs.Prelude.{◌≡◌, ℕ, List}
 use Rattle.aldlf.specs.Sheet.{sheet_of}
 use Rattle.aldlf.specs.Outcomes.{plain_row}
 use Rattle.aldlf.specs.declared.Table.{Table}

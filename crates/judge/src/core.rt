@@ -1,5 +1,5 @@
 // One core for whole logs and parts: node by node, the words of all entries, the row and the count held.
-ghost use Rattle.core.specs.Prelude.{◌≡◌, ℕ, ◌*◌, ◌<◌, ◌≤◌, true, false, ◌++◌, length, drop};
+ghost use Rattle.std.specs.Prelude.{◌≡◌, ℕ, ◌*◌, ◌<◌, ◌≤◌, true, false, ◌++◌, length, drop};
 ghost use Rattle.aldlf.specs.Constants.{entry_limit};
 ghost use Rattle.aldlf.specs.declared.Table.{Table};
 ghost use Rattle.reach.specs.Marks.{at};

@@ -1,5 +1,5 @@
 // Judging by a table that is lent as numbers, made once for many logs or for what comes after judging. A room of the checker: its other crates call it, users do not.
-ghost use Rattle.core.specs.Prelude.{◌≡◌, ◌*◌, ◌≤◌, ◌++◌, length, drop, ◌==◌};
+ghost use Rattle.std.specs.Prelude.{◌≡◌, ◌*◌, ◌≤◌, ◌++◌, length, drop, ◌==◌};
 ghost use Rattle.aldlf.specs.Constants.{entry_limit};
 ghost use Rattle.aldlf.specs.Sheet.{sheet_of};
 ghost use Rattle.aldlf.specs.Outcomes.{log_words, held_in, plain_row, no_row, whole_number, whole_outcome, part_outcome};

@@ -1,5 +1,5 @@
 // One node at all entries: its bits added to the words and counted as they are set, and its number in the row.
-ghost use Rattle.core.specs.Prelude.{◌≡◌, ℕ, ◌+◌, ◌*◌, ◌^◌, ◌<◌, ◌≤◌, true, List, length};
+ghost use Rattle.std.specs.Prelude.{◌≡◌, ℕ, ◌+◌, ◌*◌, ◌^◌, ◌<◌, ◌≤◌, true, List, length};
 ghost use Rattle.aldlf.specs.Constants.{node_limit, entry_limit, word_bits};
 ghost use Rattle.aldlf.specs.Sheet.{line_of, «bit» as bit_of};
 ghost use Rattle.aldlf.specs.Verdict.{facing};
