@@ -15,8 +15,8 @@ use Rattle.stands.specs.declared.lent.Looks.{Looks}
 use Rattle.sheet.specs.Facts.{node_at, automaton_at, Lent}
 use Rattle.reach.specs.Marks.{at, pick, verdict_added, Reaching}
 use Rattle.reach.specs.Columns as steps
-use Rattle.judge.specs.declared.core.Part.{Part}
-use Rattle.judge.specs.declared.core.CoreAnswer.{CoreAnswer}
+use Rattle.judge.specs.declared.engine.Part.{Part}
+use Rattle.judge.specs.declared.engine.CoreAnswer.{CoreAnswer}
 use Rattle.judge.specs.declared.nodes.Job.{Job}
 use Rattle.judge.specs.declared.nodes.Have.{Have}
 use Rattle.judge.specs.declared.nodes.NodeAnswer.{NodeAnswer}

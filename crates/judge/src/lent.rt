@@ -10,7 +10,7 @@ ghost use Rattle.judge.specs.Answers.{whole_of, is_held, part_of, plain_answer_o
 ghost use Rattle.sheet.specs.Facts.{Lent};
 ghost use Rattle.judge.specs.Prepared.{Prepared};
 
-use super::core::{Part, judge_core};
+use super::engine::{Part, judge_core};
 use super::questions::{part_question, whole_question};
 use super::rows::{end_row, no_row};
 use super::{Judged, PartAnswer};

@@ -23,7 +23,7 @@ use Rattle.aldlf.proofs.Search.{found_first}
 use Rattle.aldlf.proofs.Short.{found, found_some, found_none}
 use Rattle.graph.specs.Graph.{Graph, Step, Walk, far, at}
 use Rattle.graph.specs.Arcs.{unpacked_of}
-use Rattle.graph.specs.Configurations.{graph_of, Goes, Moves, Ready}
+use Rattle.graph.specs.Configurations.{graph_of, Goes, Ready}
 use Rattle.graph.proofs.Steps.{step_moves, moves_step, forward, config_inside}
 use Rattle.shortest.specs.Goals.{GoalAt, goal_at}
 use Rattle.shortest.specs.Descent.{Distances, Descent}

@@ -3,7 +3,7 @@ use Rattle.aldlf.specs.Constants.{entry_limit}
 use Rattle.judge.proofs.Adds.{zeros_at}
 use native.Mathlib.Omega.{arith}
 use Rattle.std.specs.Prelude.{◌*◌}
-use Rattle.judge.proofs.core.judge_core.Goals as goal
+use Rattle.judge.proofs.engine.judge_core.Goals as goal
 
 pub judge_in-requires : goal.judge_in-requires
 judge_in-requires c =

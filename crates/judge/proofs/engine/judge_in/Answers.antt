@@ -4,8 +4,8 @@ use Rattle.judge.proofs.Adds.{lent_put, lent_room, take_all, take_fits, take_zer
 use borrow.Author.Rules.{rules}
 use lib.Seq.{length-take-le}
 use mathlib.Core.Path.{◌∙◌, sym}
-use Rattle.judge.proofs.core.judge_in.Goals as goal
-use Rattle.judge.proofs.core.judge_in.Goals.{After-judge_nodes-a}
+use Rattle.judge.proofs.engine.judge_in.Goals as goal
+use Rattle.judge.proofs.engine.judge_in.Goals.{After-judge_nodes-a}
 
 -- the words came back twice as long as the log
 long : (c : After-judge_nodes-a) → length c.judge_nodes-a.new.words ≡ 2 * length c.args.log.now

@@ -5,7 +5,7 @@ use Rattle.judge.specs.Nodes.{Through}
 use Rattle.sheet.specs.Facts.{Lent}
 use Rattle.packing.specs.Numbers.{lent_used}
 use Rattle.reach.specs.Marks.{at, paired}
-use Rattle.judge.proofs.core.judge_nodes.Given as goal
+use Rattle.judge.proofs.engine.judge_nodes.Given as goal
 
 abbrev pub invariant-loop-k : goal.invariant-loop-k
 invariant-loop-k l = (l.k ≤ l.count) × (l.count ≡ (lent_used l.numbers).nodes) × (length l.masks ≡ length l.log) × (length l.out ≡ node_limit)

@@ -1,7 +1,7 @@
 -- `automaton_number` meets its contract, for a D or B and for another line. Assumes nothing.
 use mathlib.Core.Bool.{true≢false}
 use mathlib.Core.Path.{◌∙◌, refl, sym}
-use Rattle.judge.proofs.core.automaton_number.Goals as goal
+use Rattle.judge.proofs.engine.automaton_number.Goals as goal
 
 pub returns-then-is_modal : goal.returns-then-is_modal
 returns-then-is_modal c = let e = sym c.is_modal.ensures ∙ c.if-is_modal.true in (λ _. refl, λ p. absurd (true≢false (sym e ∙ p)))

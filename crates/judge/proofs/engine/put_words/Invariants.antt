@@ -1,5 +1,5 @@
 use Rattle.std.specs.Prelude.{◌≡◌, ◌-◌, ◌≤◌, ◌++◌, length, take, drop}
-use Rattle.judge.proofs.core.put_words.Given as goal
+use Rattle.judge.proofs.engine.put_words.Given as goal
 
 abbrev pub invariant-loop-i : goal.invariant-loop-i
 invariant-loop-i l = (l.i ≤ length l.words) × (length l.verdicts ≡ length l.initial.verdicts) × (l.verdicts ≡ take l.i l.words ++ drop l.i l.initial.verdicts)

@@ -5,7 +5,7 @@ use lib.ListN.{length-set}
 use lib.Seq.{take_all}
 use mathlib.Core.Path.{◌∙◌, ap, refl}
 use native.Mathlib.Omega.{arith}
-use Rattle.judge.proofs.core.put_words.Goals as goal
+use Rattle.judge.proofs.engine.put_words.Goals as goal
 
 pub loop-i-init : goal.loop-i-init
 loop-i-init c = (omega arith, refl, refl)

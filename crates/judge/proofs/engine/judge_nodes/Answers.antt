@@ -18,8 +18,8 @@ use Rattle.reach.specs.Marks.{paired}
 use lib.ListN.{length-set}
 use mathlib.Core.Path.{◌∙◌, ap, refl, subst, sym}
 use native.Mathlib.Omega.{arith}
-use Rattle.judge.proofs.core.judge_nodes.Goals as goal
-use Rattle.judge.proofs.core.judge_nodes.Goals.{After-automaton_at-automaton, After-automaton_number-m, In-loop-k}
+use Rattle.judge.proofs.engine.judge_nodes.Goals as goal
+use Rattle.judge.proofs.engine.judge_nodes.Goals.{After-automaton_at-automaton, After-automaton_number-m, In-loop-k}
 
 -- the node is on the sheet
 k_in : (c : In-loop-k) → c.loop-k.k < node_limit
