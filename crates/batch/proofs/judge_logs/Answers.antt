@@ -1,0 +1,6 @@
+-- `judge_logs` meets its contract: the table is packed, and the logs judged by it. Assumes nothing.
+use borrow.Author.Rules.{rules}
+use Rattle.batch.proofs.judge_logs.Goals as goal
+
+pub returns : goal.returns
+returns c = c.logs_lent.ensures c.args.table c.pack.ensures
