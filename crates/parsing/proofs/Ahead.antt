@@ -9,11 +9,11 @@ use lib.Dec.{eqb}
 use borrow.Author.Tests.{eqb-true}
 use Rattle.text.specs.Text.{is_digit}
 use Rattle.formula.specs.Formula.{Formula, Path, both, either, seq, alt, many}
-use Rattle.formula.specs.Parse.{Got, ok, bad, deep, Inner, Held, nothing, held, joined, Prefix, bang, angle, square, wrap, map_got, is_pair, is_prefix, prefixed, byte, closed, chained, chain, true_at, fact_at, stepped, starred_from, starred, atom_at, prefix_at, operand_from, operand_at, piece_at, starred_at, inner}
+use Rattle.formula.specs.Parse.{Got, ok, bad, deep, Inner, Held, nothing, held, joined, Prefix, angle, square, wrap, map_got, is_pair, is_prefix, prefixed, byte, closed, chained, chain, true_at, fact_at, stepped, starred_from, starred, atom_at, prefix_at, operand_from, operand_at, piece_at, starred_at, inner}
 use Rattle.parsing.specs.Work.{Work}
 use Rattle.parsing.specs.Build.{Seen, got_of}
 use Rattle.formula.proofs.Bytes.{byte_there}
-use Rattle.parsing.proofs.Laws.{got_ok, digit_range, pair_range}
+use Rattle.parsing.proofs.Laws.{digit_range, pair_range}
 use Rattle.parsing.proofs.Chain.{Read, is, read_ok}
 
 module _ (text : List ℕ) where
@@ -152,6 +152,8 @@ module _ (text : List ℕ) where
 
   read_ahead : {X : Type 0} (mk : X → Work) {at : ℕ} (p : Seen) (g : Got X) → Ahead at g → Read mk p g → at < p.at
   read_ahead mk p g (on l k) (is h) = l
+  read_ahead mk p _ (off k) h = elim h [ ]
+  read_ahead mk p _ (too k) h = elim h [ ]
 
   pub operand_on : (d : ℕ) (mk : Formula → Work) (at : ℕ) (p : Seen) → got_of p ≡ map_got mk (operand_at text (inner text d) at) → p.number ≡ 0 → at < p.at
   operand_on d mk at p e z = read_ahead mk p (operand_at text (inner text d) at) (ahead_operand (inner text d) (inward d) (suc (length text)) [] at) (read_ok mk p (operand_at text (inner text d) at) e z)

@@ -2,13 +2,13 @@
 use Prim.Native.Nat.{ℕ, suc, ◌+◌, ◌≤◌, ◌<◌}
 use mathlib.Core.Path.{◌≡◌, refl, ap, subst, ◌∙◌}
 use mathlib.Core.List.{List, [], ◌∷◌, ◌++◌, append_assoc}
-use mathlib.Core.Bool.{Bool, true, false, cond, not, ◌&&◌, ◌||◌}
+use mathlib.Core.Bool.{Bool, true, false, not, ◌&&◌, ◌||◌}
 use native.Mathlib.Omega.{arith}
 use lib.ListN.{length, length-append}
 use borrow.Author.Tests.{lt-ltb}
 use Rattle.aldlf.specs.Sheet.{ahead, back, stay}
 use Rattle.formula.specs.Formula.{Formula, always, fact, neg, both, either, some, every, Path, step, seq, alt, many}
-use Rattle.formula.specs.Outcome.{plain, step_takes, steps_plain, steps_plain_in}
+use Rattle.formula.specs.Outcome.{plain, steps_plain, steps_plain_in}
 use Rattle.formula.specs.Code.{code, code_in, code_true, code_keep, code_and, code_or, code_not, code_apply, code_begin, code_some, code_every, code_step, code_keep_part, code_seq, code_alt, code_many}
 use Rattle.formula.proofs.Coding.{length_one, length_two}
 use Rattle.parsing.specs.Work.{Work, put_in, put, masked, ended, stepped}

@@ -1,22 +1,22 @@
 -- Chains, prefixes, atoms and pieces as laws over plain variables: what the parser's cycle cites.
-use Prim.Native.Nat.{ℕ, zero, suc, ◌+◌, ◌-◌, ◌*◌, ◌≤◌, ◌<◌}
+use Prim.Native.Nat.{ℕ, zero, suc, ◌+◌, ◌-◌, ◌≤◌, ◌<◌}
 use mathlib.Core.Path.{◌≡◌, refl, ap, sym, subst, ◌∙◌}
-use mathlib.Core.List.{List, [], ◌∷◌}
-use mathlib.Core.Bool.{Bool, true, false, cond, ◌&&◌, ◌||◌}
+use mathlib.Core.List.{List}
+use mathlib.Core.Bool.{Bool, true, false, cond}
 use mathlib.Core.Logic.{◌⊎◌, inl, inr}
 use native.Mathlib.Omega.{arith}
-use lib.ListN.{length, get_or}
-use lib.Dec.{eqb, ltb, leb}
-use borrow.Author.Tests.{eq-eqb, ne_eqb, eqb-true}
+use lib.ListN.{length}
+use lib.Dec.{eqb}
+use borrow.Author.Tests.{ne_eqb, eqb-true}
 use Rattle.aldlf.specs.Sheet.{ahead, back, stay}
-use Rattle.formula.specs.Formula.{Formula, always, neg, both, either, some, every, Path, step, seq, alt, many}
-use Rattle.formula.specs.Parse.{Got, ok, bad, deep, Inner, Held, nothing, held, joined, Prefix, bang, angle, square, wrap, map_got, is_prefix, prefixed, byte, closed, chained, chain, true_at, fact_at, stepped, starred_from, starred, atom_at, prefix_at, operand_from, operand_at, piece_at, starred_at, outside, inner}
+use Rattle.formula.specs.Formula.{Formula, both, either, Path, step, seq, alt}
+use Rattle.formula.specs.Parse.{Got, ok, bad, deep, Inner, Held, nothing, held, joined, Prefix, angle, square, map_got, byte, closed, chained, chain, stepped, atom_at, prefix_at, piece_at, outside, inner}
 use Rattle.formula.specs.Code.{code_keep, code_and, code_or, code_not, code_begin, code_some, code_every, code_step, code_keep_part, code_seq, code_alt}
 use Rattle.parsing.specs.Work.{Work, put, put_if, masked, ended}
 use Rattle.parsing.specs.Work as work
-use Rattle.parsing.specs.Build.{build, build_in, Seen, got_of, Next, goes, stops, pick_next, followed, end_of, opened, simple_at, stepped_by, stars_on}
+use Rattle.parsing.specs.Build.{build, build_in, Seen, got_of, Next, goes, stops, pick_next, followed, end_of, opened, simple_at, stepped_by}
 use Rattle.formula.proofs.Bytes.{byte_there}
-use Rattle.parsing.proofs.Laws.{fuel_down, got_ok, got_fail, map_closed, map_starred}
+use Rattle.parsing.proofs.Laws.{fuel_down, got_ok, got_fail, map_closed}
 
 no : {A : Type 0} → ◌≡◌ {A = ℕ} 0 1 → A
 no z = absurd (omega arith)

@@ -1,22 +1,22 @@
 -- The parser's leaves as laws over plain variables: the code's answers cite them.
 use Prim.Native.Nat.{ℕ, zero, suc, ◌+◌, ◌-◌, ◌*◌, ◌≤◌, ◌<◌}
-use mathlib.Core.Path.{◌≡◌, refl, ap, sym, subst, ◌∙◌}
-use mathlib.Core.List.{List, [], ◌∷◌}
-use mathlib.Core.Bool.{Bool, true, false, cond, not, ◌&&◌, ◌||◌}
+use mathlib.Core.Path.{◌≡◌, refl, ap, sym, ◌∙◌}
+use mathlib.Core.List.{List}
+use mathlib.Core.Bool.{Bool, true, false, cond, ◌&&◌, ◌||◌}
 use mathlib.Core.Logic.{◌⊎◌, inl, inr}
 use native.Mathlib.Omega.{arith}
-use lib.ListN.{length, get_or}
-use lib.Dec.{eqb, ltb, leb}
-use borrow.Author.Tests.{eq-eqb, ne_eqb, lt-ltb, le-ltb, ltb-true, leb-true, eqb-true}
+use lib.ListN.{length}
+use lib.Dec.{eqb, leb}
+use borrow.Author.Tests.{eq-eqb, ne_eqb, leb-true, eqb-true}
 use Rattle.aldlf.proofs.Bools.{and_left, and_right}
 use Rattle.text.specs.Text.{is_digit}
 use Rattle.aldlf.specs.Sheet.{ahead, back, stay}
-use Rattle.formula.specs.Formula.{Formula, always, fact, Path, many}
-use Rattle.formula.specs.Parse.{Got, ok, bad, deep, Held, nothing, held, map_got, byte, closed, true_at, fact_at, is_pair, starred_from, starred}
+use Rattle.formula.specs.Formula.{Formula, Path, many}
+use Rattle.formula.specs.Parse.{Got, ok, bad, deep, map_got, byte, closed, true_at, fact_at, is_pair, starred_from, starred}
 use Rattle.formula.proofs.Bytes.{byte_there}
 use Rattle.formula.specs.Code.{code_true, code_many, code_step, code_some, code_every}
 use Rattle.parsing.specs.Work.{Work, put, put_if, stepped}
-use Rattle.parsing.specs.Build.{build, build_in, Seen, got_of, Next, goes, stops, followed, end_of, fact_by, simple_at, stepped_by, stars_by, stars_on}
+use Rattle.parsing.specs.Build.{build, build_in, Seen, got_of, goes, stops, followed, end_of, fact_by, simple_at, stepped_by, stars_by, stars_on}
 
 -- a place within the text leaves something to read
 pub fuel_down : (text : List ℕ) (n at : ℕ) → at < length text → length text ≤ at + n → (m : ℕ) × (n ≡ suc m)
@@ -193,13 +193,6 @@ module _ (b c keep x : ℕ) (o a : Bool) (w u v k : Work) where
   pub stops_here : ¬ (x ≡ b) → ¬ (x ≡ c) → u ≡ put_if a b w → v ≡ put_if o c u → stops v ≡ followed b c keep x o a w
   unfolding followed
   stops_here h i l m = rw (ne_eqb x b h, ne_eqb x c i, m, l)
-
--- what the outcome of a test that a function answers says of the test
-pub yes_is : {r b : Bool} → r ≡ b → not r ≡ false → b ≡ true
-yes_is {r} e h = sym e ∙ borrow.Author.Tests.not-false r h
-
-pub no_is : {r b : Bool} → r ≡ b → not r ≡ true → b ≡ false
-no_is {r} e h = sym e ∙ borrow.Author.Tests.not-true r h
 
 or_is : (a b : Bool) → a || b ≡ true → (a ≡ true) ⊎ (b ≡ true)
 or_is true b e = inl refl

@@ -1,16 +1,15 @@
 -- One instruction written to the lent bytes is one instruction more, where there is room and where there is none.
-use Prim.Native.Nat.{ℕ, zero, suc, ◌+◌, ◌≤◌, ◌<◌, min}
+use Prim.Native.Nat.{ℕ, zero, suc, ◌+◌, ◌≤◌, ◌<◌}
 use mathlib.Core.Path.{◌≡◌, refl, ap, sym, ◌∙◌}
 use mathlib.Core.Bool.{Bool, true, false, not, ◌&&◌, ◌||◌}
-use mathlib.Core.List.{List, [], ◌∷◌, ◌++◌}
+use mathlib.Core.List.{List}
 use native.Mathlib.Omega.{arith}
 use native.Mathlib.Numerals.{add-one}
 use lib.Dec.{eqb}
 use lib.ListN.{length, take, set, length-take, length-set}
 use lib.Seq.{take-suc-set}
 use borrow.Author.Tests.{lt-ltb, le-ltb, ne_eqb}
-use Rattle.aldlf.specs.Sheet.{stay}
-use Rattle.formula.specs.Code.{code_apply, code_step}
+use Rattle.formula.specs.Code.{code_apply}
 use Rattle.parsing.specs.Work.{Work, is_set, put, put_if, applied, ended, stray_by, stepped}
 
 module _ (n b : ℕ) (modal stray : Bool) (out : List ℕ) where

@@ -1,15 +1,14 @@
 -- What the parser gives for a whole text is what the definition says: its instructions, or the first of refusals 50, 51 and 52, 54.
-use Prim.Native.Nat.{ℕ, ◌+◌, ◌*◌, ◌≤◌, ◌<◌}
+use Prim.Native.Nat.{ℕ, ◌≤◌, ◌<◌}
 use mathlib.Core.Path.{◌≡◌, refl, ap, sym, ◌∙◌}
 use mathlib.Core.List.{List, []}
 use mathlib.Core.Bool.{Bool, true, false, cond, not, ◌||◌}
 use native.Mathlib.Omega.{arith}
 use lib.ListN.{length}
-use lib.Dec.{eqb, leb}
+use lib.Dec.{eqb}
 use borrow.Author.Tests.{eq-eqb, ne_eqb, eqb-true, le-leb, lt-leb}
 use Rattle.formula.specs.Limits.{formula_limit}
 use Rattle.formula.specs.Formula.{Formula}
-use Rattle.formula.specs.Grammar.{Writes}
 use Rattle.formula.specs.Parse.{Got, ok, bad, deep, map_got, inner, whole, parsed}
 use Rattle.formula.specs.Outcome.{steps_plain}
 use Rattle.formula.specs.Code.{code}
@@ -17,7 +16,7 @@ use Rattle.formula.proofs.Coding.{code_short}
 use Rattle.formula.proofs.Places.{read_iff}
 use Rattle.parsing.specs.Work.{Work, is_set}
 use Rattle.parsing.specs.Build.{build, Seen, got_of}
-use Rattle.parsing.specs.Written.{code_limit, Coded, coded, refused, coded_by, text_code, finished}
+use Rattle.parsing.specs.Written.{code_limit, coded, refused, coded_by, text_code, finished}
 use Rattle.parsing.proofs.Laws.{got_ok}
 use Rattle.parsing.proofs.Bytes.{stray-build, bytes_build}
 

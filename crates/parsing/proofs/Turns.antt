@@ -1,16 +1,16 @@
 -- One turn of each loop of the parser's cycle.
-use Prim.Native.Nat.{ℕ, zero, suc, ◌+◌, ◌-◌, ◌≤◌, ◌<◌}
-use mathlib.Core.Path.{◌≡◌, refl, ap, sym, subst, ◌∙◌}
-use mathlib.Core.List.{List, [], ◌∷◌}
+use Prim.Native.Nat.{ℕ, ◌+◌, ◌-◌, ◌≤◌, ◌<◌}
+use mathlib.Core.Path.{◌≡◌, ap, sym, subst, ◌∙◌}
+use mathlib.Core.List.{List}
 use mathlib.Core.Bool.{Bool, true, false}
 use native.Mathlib.Omega.{arith}
 use lib.ListN.{length}
 use Rattle.formula.specs.Formula.{Formula, both, either, Path, seq, alt}
 use Rattle.formula.specs.Code.{code_keep, code_and, code_or, code_keep_part, code_seq, code_alt}
-use Rattle.formula.specs.Parse.{Got, ok, Inner, Prefix, map_got, is_prefix, byte, chain, operand_at, piece_at, starred_at, prefix_at, outside, inner}
+use Rattle.formula.specs.Parse.{Got, ok, Inner, Prefix, map_got, is_prefix, byte, operand_at, piece_at, starred_at, prefix_at, outside, inner}
 use Rattle.parsing.specs.declared.parse.Next as next
 use Rattle.parsing.specs.Work.{Work, work_of}
-use Rattle.parsing.specs.Build.{build, build_in, Seen, got_of, next_of, followed, Next, stops, goes, opened, stars_on}
+use Rattle.parsing.specs.Build.{build, build_in, Seen, got_of, next_of, followed, opened, stars_on}
 use Rattle.parsing.proofs.Laws.{map_starred}
 use Rattle.parsing.proofs.Chain.{Stands, chain_starts, chain_fails, chain_goes, Outcome, both_law, either_law, seq_law, alt_law, picked_stop, picked_go, inner_down}
 use Rattle.parsing.proofs.Ahead.{operand_on, starred_on, prefix_on, prefix_stands}

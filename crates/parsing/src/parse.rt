@@ -144,7 +144,7 @@ fn step_of(text: &[u8], p: Parse, out: &mut [u8]) -> Parse
 }
 
 // Operands joined by `&` and `|`, where `depth` more marks may be open, the one around this formula counted.
-#[cycle(atom_formula_operand_path_piece_prefix)]
+#[cycle(parser)]
 pub(crate) fn formula(text: &[u8], start: usize, depth: u8, w0: Writing, out: &mut [u8]) -> Parse
     ensures { got_of (seen_of result out.new) ≡ map_got (λ (a : Formula). build a (work_of w0 out.old)) ((inner text.now depth).formula start) }
 {
@@ -187,7 +187,7 @@ pub(crate) fn formula(text: &[u8], start: usize, depth: u8, w0: Writing, out: &m
 }
 
 // An operand: its prefixes and an atom. The prefixes are no calls of their own: some 4,000 of them would take too much of the stack.
-#[cycle(atom_formula_operand_path_piece_prefix)]
+#[cycle(parser)]
 fn operand(text: &[u8], start: usize, depth: u8, w0: Writing, out: &mut [u8]) -> Parse
     ensures { got_of (seen_of result out.new) ≡ map_got (λ (a : Formula). build a (work_of w0 out.old)) (operand_at text.now (inner text.now depth) start) }
 {
@@ -216,7 +216,7 @@ fn operand(text: &[u8], start: usize, depth: u8, w0: Writing, out: &mut [u8]) ->
 }
 
 // `!`, `<path>` or, where neither begins, `[path]`.
-#[cycle(atom_formula_operand_path_piece_prefix)]
+#[cycle(parser)]
 fn prefix(text: &[u8], at: usize, depth: u8, w: Writing, out: &mut [u8]) -> Parse
     requires { is_prefix (byte text.now at) ≡ true }
     ensures { got_of (seen_of result out.new) ≡ map_got (λ (x : Prefix). opened x (work_of w out.old)) (prefix_at text.now (inner text.now depth) at) }
@@ -234,7 +234,7 @@ fn prefix(text: &[u8], at: usize, depth: u8, w: Writing, out: &mut [u8]) -> Pars
 }
 
 // `true`, a fact, or a formula in brackets.
-#[cycle(atom_formula_operand_path_piece_prefix)]
+#[cycle(parser)]
 fn atom(text: &[u8], at: usize, depth: u8, w: Writing, out: &mut [u8]) -> Parse
     ensures { got_of (seen_of result out.new) ≡ map_got (λ (a : Formula). build a (work_of w out.old)) (atom_at text.now (inner text.now depth) at) }
 {
@@ -246,7 +246,7 @@ fn atom(text: &[u8], at: usize, depth: u8, w: Writing, out: &mut [u8]) -> Parse
 }
 
 // Starred pieces joined by `;` and `+`, where `depth` more marks may be open, the one around this path counted.
-#[cycle(atom_formula_operand_path_piece_prefix)]
+#[cycle(parser)]
 fn path(text: &[u8], start: usize, depth: u8, w0: Writing, out: &mut [u8]) -> Parse
     ensures { got_of (seen_of result out.new) ≡ map_got (λ (p : Path). build_in p (work_of w0 out.old)) ((inner text.now depth).path start) }
 {
@@ -290,7 +290,7 @@ fn path(text: &[u8], start: usize, depth: u8, w0: Writing, out: &mut [u8]) -> Pa
 }
 
 // A step, or a path in brackets.
-#[cycle(atom_formula_operand_path_piece_prefix)]
+#[cycle(parser)]
 fn piece(text: &[u8], at: usize, depth: u8, w: Writing, out: &mut [u8]) -> Parse
     ensures { got_of (seen_of result out.new) ≡ map_got (λ (p : Path). build_in p (work_of w out.old)) (piece_at text.now (inner text.now depth) at) }
 {

@@ -1,0 +1,11 @@
+-- `write` meets its contract: an instruction is stored where there is room. Assumes nothing.
+use native.Mathlib.Omega.{arith}
+use Rattle.parsing.specs.Work.{is_set}
+use Rattle.parsing.proofs.Putting.{put_in, put_none}
+use Rattle.parsing.proofs.writing.write.Goals as goal
+
+pub returns-then-n-out : goal.returns-then-n-out
+returns-then-n-out c = let a = c.args in put_in a.w.length a.code (is_set a.w.modal) (is_set a.w.stray) a.out.now (omega arith)
+
+pub returns : goal.returns
+returns c = let a = c.args in put_none a.w.length a.code (is_set a.w.modal) (is_set a.w.stray) a.out.now (omega arith)
