@@ -15,9 +15,6 @@ loop-k-preserved c =
     let l = c.loop-k in
     lent_next is_byte (λ (b : ℕ). b) (λ (x : ℕ). x % 256) (edge_byte c.args.xs.now) 0 0 edge_bytes c.args.bytes.now l.k l.k l.fit _ l.bytes _ l.invariant c.loop-k-test.true (omega arith) (omega (arith, c.loop-k-test.true, l.invariant.put.same, c.requires.1)) refl refl
 
-pub shape_of-bytes : goal.shape_of-bytes
-shape_of-bytes c = c.loop-k.invariant.put.same
-
 pub returns : goal.returns
 returns c =
     let l = c.loop-k in

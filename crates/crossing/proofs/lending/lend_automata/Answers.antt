@@ -3,16 +3,12 @@ use Rattle.crossing.proofs.Lent.{heads_lent_none, heads_lent_next, heads_lent_al
 use Rattle.crossing.proofs.lending.lend_automata.Goals as goal
 
 pub loop-k-init : goal.loop-k-init
-loop-k-init c =
-    heads_lent_none c.args.xs.now c.args.numbers.now c.requires.1
+loop-k-init c = heads_lent_none c.args.xs.now c.args.numbers.now c.requires.1
 
 pub loop-k-preserved : goal.loop-k-preserved
 loop-k-preserved c =
     let l = c.loop-k in
     heads_lent_next c.args.xs.now c.args.numbers.now l.k l.fit _ l.numbers _ l.invariant c.loop-k-test.true c.automaton_fits-fit.ensures c.lend_automaton.ensures
-
-pub shape_of-numbers : goal.shape_of-numbers
-shape_of-numbers c = c.loop-k.invariant.put.same
 
 pub returns : goal.returns
 returns c =

@@ -19,9 +19,6 @@ loop-k-preserved c =
     let t = c.loop-k-test.true in
     (omega (arith, t), lent_next line_fits line_in line_cut (λ i. line_at c.args.xs.now (line_size * i)) no_line lines_place node_limit c.args.numbers.now l.k (lines_place + l.k) l.fit _ l.numbers c.line_number.result l.invariant.1 (omega (arith, t, c.requires.0)) (omega arith) (omega (arith, t, l.invariant.1.put.same, c.requires.0, c.requires.2)) c.line_fits-fit.ensures c.line_number.ensures)
 
-pub shape_of-numbers : goal.shape_of-numbers
-shape_of-numbers c = c.loop-k.invariant.1.put.same
-
 pub returns : goal.returns
 returns c =
     let l = c.loop-k in

@@ -1,13 +1,10 @@
 -- `no_lines_from` meets its contract: the places passed are 0 where their or is. Assumes nothing.
 use Prim.Native.Nat.{◌*◌}
-use Rattle.crossing.proofs.Rest.{joined_none, joined_next}
+use Rattle.crossing.proofs.Rest.{joined_next}
 use Rattle.crossing.specs.Numbers.{line_size}
 use borrow.Author.Tests.{eqb-true}
 use native.Mathlib.Omega.{arith}
 use Rattle.crossing.proofs.lending.no_lines_from.Goals as goal
-
-pub loop-i-init : goal.loop-i-init
-loop-i-init c = (omega arith, joined_none c.args.xs.now (line_size * c.args.n))
 
 pub loop-i-preserved : goal.loop-i-preserved
 loop-i-preserved c =
@@ -15,5 +12,4 @@ loop-i-preserved c =
     (omega (arith, c.loop-i-test.true), joined_next c.args.xs.now (line_size * c.args.n) l.i l.rest l.invariant.1)
 
 pub returns : goal.returns
-returns c = let l = c.loop-i in
-    λ z i h e. l.invariant.1.zeros (eqb-true _ _ z) i h (omega (arith, c.loop-i-test.false))
+returns c = λ z i h e. c.loop-i.invariant.1.zeros (eqb-true _ _ z) i h (omega (arith, c.loop-i-test.false))

@@ -2,7 +2,6 @@
 use Prim.Native.Nat.{ℕ, ◌*◌}
 use Rattle.crossing.proofs.Lent.{put_at}
 use Rattle.crossing.specs.Numbers.{edge_size, edge_at}
-use Rattle.packing.proofs.PlaceLaws.{put_none}
 use Rattle.packing.specs.Numbers.{edge_in}
 use Rattle.packing.specs.Packed.{Put}
 use lib.ListN.{length-set}
@@ -10,17 +9,11 @@ use mathlib.Core.Path.{◌≡◌, subst, ◌∙◌}
 use native.Mathlib.Omega.{arith}
 use Rattle.crossing.proofs.lending.put_edges.Goals as goal
 
-pub loop-k-init : goal.loop-k-init
-loop-k-init c = (omega arith, c.requires.1, put_none _ _ _)
-
 pub loop-k-preserved : goal.loop-k-preserved
 loop-k-preserved c =
     let l = c.loop-k in
     let n = c.edge_number in
     (omega (arith, c.loop-k-test.true), length-set l.numbers l.k n.result ∙ l.invariant.1, put_at (λ (e p : ℕ). edge_in p ≡ edge_at c.args.bytes.now (edge_size * e)) 0 l.k l.k c.args.numbers.now l.numbers n.result (omega arith) (omega (arith, c.loop-k-test.true, l.invariant.1)) l.invariant.2 n.ensures)
-
-pub shape_of-numbers : goal.shape_of-numbers
-shape_of-numbers c = c.loop-k.invariant.2.same
 
 pub returns : goal.returns
 returns c =

@@ -1,9 +1,8 @@
 -- `put_automata` meets its contract: the numbers of those passed stand from their place on. Assumes nothing.
-use mathlib.Core.Path.{◌≡◌, refl, ap, ◌∙◌}
+use mathlib.Core.Path.{refl, ap, ◌∙◌}
 use mathlib.Core.List.{List}
 use native.Mathlib.Omega.{arith}
-use lib.ListN.{length, take}
-use lib.Seq.{sets, length-sets, take_all}
+use lib.Seq.{sets, take_all}
 use Rattle.aldlf.specs.Sheet.{no_automaton}
 use Rattle.aldlf.specs.declared.Automaton.{Automaton}
 use Rattle.crossing.specs.Numbers.{automata_place, automaton_size, automaton_numbers, numbers_of}
@@ -14,22 +13,14 @@ pub loop-k-init : goal.loop-k-init
 unfolding numbers_of
 loop-k-init c = (omega arith, refl)
 
-pub put_automaton-requires : goal.put_automaton-requires
-put_automaton-requires c = omega (arith, ap length c.loop-k.invariant.1 ∙ length-sets c.args.out.now automata_place (numbers_of automaton_numbers (take c.loop-k.k c.args.automata)))
-
 pub loop-k-preserved : goal.loop-k-preserved
 loop-k-preserved c =
     let l = c.loop-k in
     let a = c.args in
-    let n : length a.automata ≡ 16 = c.well_formed.0.1.0.1 in
     (omega arith, put_next automaton_numbers automaton_size (λ x. refl) a.out.now l.out _ a.automata automata_place l.k no_automaton (omega arith) l.invariant.1 c.put_automaton.ensures)
-
-pub shape_of-out : goal.shape_of-out
-shape_of-out c = ap length c.loop-k.invariant.1 ∙ length-sets c.args.out.now automata_place (numbers_of automaton_numbers (take c.loop-k.k c.args.automata))
 
 pub returns : goal.returns
 returns c =
     let l = c.loop-k in
     let a = c.args in
-    let n : length a.automata ≡ 16 = c.well_formed.0.1.0.1 in
     l.invariant.1 ∙ ap (λ (x : List Automaton). sets a.out.now automata_place (numbers_of automaton_numbers x)) (take_all l.k a.automata (omega arith))

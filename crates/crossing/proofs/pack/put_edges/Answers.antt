@@ -1,9 +1,8 @@
 -- `put_edges` meets its contract: the numbers of those passed stand from their place on. Assumes nothing.
-use mathlib.Core.Path.{◌≡◌, refl, ap, ◌∙◌}
+use mathlib.Core.Path.{refl, ap, ◌∙◌}
 use mathlib.Core.List.{List}
 use native.Mathlib.Omega.{arith}
-use lib.ListN.{length, take}
-use lib.Seq.{sets, length-sets, take_all}
+use lib.Seq.{sets, take_all}
 use Rattle.aldlf.specs.Sheet.{no_edge}
 use Rattle.aldlf.specs.declared.Edge.{Edge}
 use Rattle.crossing.specs.Numbers.{edges_place, edge_size, edge_numbers, numbers_of}
@@ -14,22 +13,14 @@ pub loop-k-init : goal.loop-k-init
 unfolding numbers_of
 loop-k-init c = (omega arith, refl)
 
-pub put_edge-requires : goal.put_edge-requires
-put_edge-requires c = omega (arith, ap length c.loop-k.invariant.1 ∙ length-sets c.args.out.now edges_place (numbers_of edge_numbers (take c.loop-k.k c.args.edges)))
-
 pub loop-k-preserved : goal.loop-k-preserved
 loop-k-preserved c =
     let l = c.loop-k in
     let a = c.args in
-    let n : length a.edges ≡ 256 = c.well_formed.0.1.0.1 in
     (omega arith, put_next edge_numbers edge_size (λ x. refl) a.out.now l.out _ a.edges edges_place l.k no_edge (omega arith) l.invariant.1 c.put_edge.ensures)
-
-pub shape_of-out : goal.shape_of-out
-shape_of-out c = ap length c.loop-k.invariant.1 ∙ length-sets c.args.out.now edges_place (numbers_of edge_numbers (take c.loop-k.k c.args.edges))
 
 pub returns : goal.returns
 returns c =
     let l = c.loop-k in
     let a = c.args in
-    let n : length a.edges ≡ 256 = c.well_formed.0.1.0.1 in
     l.invariant.1 ∙ ap (λ (x : List Edge). sets a.out.now edges_place (numbers_of edge_numbers x)) (take_all l.k a.edges (omega arith))

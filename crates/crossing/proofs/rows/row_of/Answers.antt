@@ -1,14 +1,11 @@
 -- `row_of` meets its contract: the numbers passed are copied. Assumes nothing.
 use Prim.Native.Nat.{◌<◌}
-use mathlib.Core.Path.{refl, ap, ◌∙◌}
+use mathlib.Core.Path.{ap, ◌∙◌}
 use native.Mathlib.Omega.{arith}
 use lib.ListN.{length, length-set}
 use Rattle.crossing.proofs.Copied.{copied_next, copied_all}
 use Rattle.crossing.specs.Numbers.{row_of}
 use Rattle.crossing.proofs.rows.row_of.Goals as goal
-
-pub loop-k-init : goal.loop-k-init
-loop-k-init c = (omega arith, (refl, refl))
 
 pub loop-k-preserved : goal.loop-k-preserved
 loop-k-preserved c =
