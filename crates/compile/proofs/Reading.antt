@@ -1,14 +1,13 @@
 -- What the instructions of a text make is what reading the text comes to.
-use Prim.Native.Nat.{ℕ, ◌≤◌, min}
+use Prim.Native.Nat.{ℕ, min}
 use mathlib.Core.Path.{◌≡◌, refl, ap, sym, ◌∙◌}
 use mathlib.Core.Bool.{Bool, true, false, cond}
 use mathlib.Core.List.{List}
 use native.Mathlib.Omega.{arith}
 use lib.ListN.{length, take}
 use lib.Seq.{take_all}
-use lib.Dec.{eqb, leb}
+use lib.Dec.{leb}
 use borrow.Author.Tests.{ne_eqb, eq-eqb}
-use Rattle.aldlf.specs.declared.Table.{Table}
 use Rattle.sheet.specs.Questions.{empty_table}
 use Rattle.formula.specs.Limits.{formula_limit}
 use Rattle.formula.specs.Formula.{Formula}
@@ -25,7 +24,6 @@ use Rattle.parsing.specs.Written.{Coded, code_limit, coded_by, coded_of, text_co
 use Rattle.making.specs.declared.Making.{Making}
 use Rattle.making.specs.Run.{run, first_bench, making_of}
 use Rattle.making.proofs.Request.{made_is}
-use Rattle.compile.specs.declared.FormulaAnswer.{FormulaAnswer}
 use Rattle.compile.specs.Answers.{answer_of, read_made, formula_answer}
 
 -- what instructions make
