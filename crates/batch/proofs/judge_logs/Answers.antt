@@ -1,5 +1,4 @@
 -- `judge_logs` meets its contract: the table is packed, and the logs judged by it. Assumes nothing.
-use borrow.Author.Rules.{rules}
 use Rattle.batch.proofs.judge_logs.Goals as goal
 
 pub returns : goal.returns

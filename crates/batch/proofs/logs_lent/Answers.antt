@@ -12,7 +12,6 @@ use Rattle.sheet.proofs.Facts.{table_facts}
 use Rattle.batch.specs.Batch.{misfit, roomless}
 use Rattle.batch.specs.declared.BatchAnswer.{BatchAnswer}
 use Rattle.batch.proofs.Answers.{accepted, ends_refused, ends_judged}
-use borrow.Author.Rules.{rules}
 use Rattle.batch.proofs.logs_lent.Goals as goal
 use Rattle.batch.proofs.logs_lent.Goals.{After-plain_of-plain, Else-a-ne0}
 
@@ -25,8 +24,8 @@ yes c t P =
 lent : (c : Else-a-ne0) → (t : Table) → Packed t c.args.numbers.now → Lent t c.args.numbers.now
 lent c t P = record { facts = table_facts t (yes c t P).0; packed = P }
 
-prepared : (c : After-plain_of-plain) → (t : Table) → Packed t c.args.numbers.now → Prepared t c.plain_of-plain.result c.args.numbers.now
-prepared c t P = let L = lent c.Else-a-ne0 t P in record { lent = L; plain_is = c.plain_of-plain.ensures t L }
+prepared : (c : After-plain_of-plain) → (t : Table) → Lent t c.args.numbers.now → Prepared t c.plain_of-plain.result c.args.numbers.now
+prepared c t L = record { lent = L; plain_is = c.plain_of-plain.ensures t L }
 
 pub returns-then-a-ne0 : goal.returns-then-a-ne0
 returns-then-a-ne0 c =
@@ -38,9 +37,9 @@ pub plain_of-plain-requires : goal.plain_of-plain-requires
 plain_of-plain-requires c = (c.requires.0, lent (goal.at.plain_of-plain-requires c).Else-a-ne0 c.requires.0 c.requires.1)
 
 pub judge_each-requires : goal.judge_each-requires
-judge_each-requires c = 
+judge_each-requires c =
     let y = yes (goal.at.judge_each-requires c).Else-a-ne0 c.requires.0 c.requires.1 in
-    record { prepared = (c.requires.0, prepared (goal.at.judge_each-requires c).After-plain_of-plain c.requires.0 c.requires.1); lengths_value = y.1; lengths_value_2 = y.2 }
+    record { prepared = (c.requires.0, prepared (goal.at.judge_each-requires c).After-plain_of-plain c.requires.0 (lent (goal.at.judge_each-requires c).Else-a-ne0 c.requires.0 c.requires.1)); lengths_value = y.1; lengths_value_2 = y.2 }
 
 pub returns : goal.returns
 returns c =
@@ -49,4 +48,4 @@ returns c =
     let j = c.judge_each in
     λ t P.
     ends_judged (well_formed t) (sheet_of t) a.words.now a.lengths.now a.verdicts.now a.held.now q.result (q.ensures t P) c.if-a-ne0.false _ _
-    (j.ensures.verdicts_after t (prepared (goal.at.returns c).After-plain_of-plain t P)) (j.ensures.held_after t (prepared (goal.at.returns c).After-plain_of-plain t P))
+    (j.ensures.verdicts_after t (prepared (goal.at.returns c).After-plain_of-plain t (lent (goal.at.returns c).Else-a-ne0 t P))) (j.ensures.held_after t (prepared (goal.at.returns c).After-plain_of-plain t (lent (goal.at.returns c).Else-a-ne0 t P)))

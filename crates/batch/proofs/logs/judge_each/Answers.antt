@@ -4,10 +4,8 @@ use native.Mathlib.Omega.{arith}
 use mathlib.Core.Path.{◌≡◌}
 use lib.ListN.{length, get_or, take, drop}
 use Rattle.aldlf.specs.Sheet.{sheet_of}
-use Rattle.aldlf.specs.declared.Table.{Table}
-use Rattle.judge.specs.Prepared.{Prepared}
 use Rattle.aldlf.proofs.Outcomes.{held_le}
-use Rattle.batch.proofs.Places.{Judged, start, Turn, turn, same_verdicts, same_held, log_long, room_long, next, all_words, all_counts}
+use Rattle.batch.proofs.Places.{start, Turn, turn, same_verdicts, same_held, log_long, room_long, next, all_words, all_counts}
 use borrow.Author.Rules.{rules}
 use Rattle.batch.proofs.logs.judge_each.Goals as goal
 use Rattle.batch.proofs.logs.judge_each.Goals.{At-loop-k, In-loop-k}
@@ -43,7 +41,7 @@ long-held c =
     same_held (sheet_of w.0) a.words.now a.lengths.now a.verdicts.now a.held.now l.verdicts l.held l.at l.k (l.invariant w.0 w.1)
 
 pub loop-k-init : goal.loop-k-init
-loop-k-init c = 
+loop-k-init c =
     λ t P. start (sheet_of t) c.args.words.now c.args.lengths.now c.args.verdicts.now c.args.held.now c.requires.lengths_value c.requires.lengths_value_2
 
 pub overflow_cast-end : goal.overflow_cast-end
@@ -63,6 +61,13 @@ overflow_mul-end c = let t = (known (goal.at.overflow_mul-end c).In-loop-k).verd
 
 pub offset_bounds-verdicts-at : goal.offset_bounds-verdicts-at
 offset_bounds-verdicts-at c = let t = (known (goal.at.offset_bounds-verdicts-at c).In-loop-k).verdicts_room in let e = long (goal.at.offset_bounds-verdicts-at c).At-loop-k in search rules
+
+pub slice_bounds-judge_one-end : goal.slice_bounds-judge_one-end
+slice_bounds-judge_one-end c = omega (arith, (known (goal.at.slice_bounds-judge_one-end c).In-loop-k).log.there)
+
+pub slice_bounds-judge_one-end-in-loop-k : goal.slice_bounds-judge_one-end-in-loop-k
+slice_bounds-judge_one-end-in-loop-k c =
+    omega (arith, (known (goal.at.slice_bounds-judge_one-end-in-loop-k c).In-loop-k).verdicts_room, long (goal.at.slice_bounds-judge_one-end-in-loop-k c).At-loop-k)
 
 pub judge_one-n-requires : goal.judge_one-n-requires
 judge_one-n-requires c =

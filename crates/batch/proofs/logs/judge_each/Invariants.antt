@@ -1,13 +1,9 @@
-use Prim.Native.Nat.{◌-◌, ◌+◌}
-use native.Mathlib.Omega.{arith}
-use mathlib.Core.Path.{◌≡◌}
-use lib.ListN.{length, get_or, take, drop}
+use Prim.Native.Nat.{◌-◌}
+use lib.ListN.{length}
 use Rattle.aldlf.specs.Sheet.{sheet_of}
 use Rattle.aldlf.specs.declared.Table.{Table}
 use Rattle.judge.specs.Prepared.{Prepared}
-use Rattle.aldlf.proofs.Outcomes.{held_le}
-use Rattle.batch.proofs.Places.{Judged, start, Turn, turn, same_verdicts, same_held, log_long, room_long, next, all_words, all_counts}
-use borrow.Author.Rules.{rules}
+use Rattle.batch.proofs.Places.{Judged}
 use Rattle.batch.proofs.logs.judge_each.Given as goal
 
 abbrev pub invariant-loop-k : goal.invariant-loop-k
