@@ -1,4 +1,4 @@
-/* Rozsvelen: a proved rule checker for job logs. Link with libexports.a (`rt staticlib exports`).
+/* Rozsvelen: a proved rule checker for job logs. Link with libexports.a (`rt lib` in crates/exports).
  *
  * Every function answers one number of four parts, 16 bits each, from the low bits up: a count or length; the number of the question that
  * got a no (0: accepted); the line that the question is about (from 1; 0 for questions not about a line); and what a function gives besides

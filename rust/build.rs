@@ -5,12 +5,15 @@ use std::path::Path;
 use std::process::Command;
 use std::time::SystemTime;
 
-/// When a file, or anything below a folder, was last changed.
+/// When a file, or anything below a folder, was last changed; what `rt` keeps in a crate's `out` is no source.
 fn changed(path: &Path) -> Result<SystemTime> {
     let mut latest = fs::metadata(path)?.modified()?;
     if path.is_dir() {
         for entry in fs::read_dir(path)? {
-            latest = latest.max(changed(&entry?.path())?);
+            let path = entry?.path();
+            if path.file_name().is_none_or(|name| name != "out") {
+                latest = latest.max(changed(&path)?);
+            }
         }
     }
     Ok(latest)
@@ -18,16 +21,25 @@ fn changed(path: &Path) -> Result<SystemTime> {
 
 fn main() -> Result<()> {
     let root = Path::new(env!("CARGO_MANIFEST_DIR")).join("..");
-    let archive = root.join("target/staticlib/libexports.a");
+    let archive = root.join("crates/exports/out/libexports.a");
     let sources = changed(&root.join("crates"))?.max(changed(&root.join("crates.txt"))?);
     if !changed(&archive).is_ok_and(|built| built >= sources) {
-        let built = Command::new("rt").args(["staticlib", "exports"]).current_dir(&root).status();
-        assert!(built.is_ok_and(|s| s.success()), "`rt staticlib exports` did not build the library");
+        let built = Command::new("rt").arg("lib").current_dir(root.join("crates/exports")).status();
+        assert!(built.is_ok_and(|s| s.success()), "`rt lib` in crates/exports did not build the library");
     }
-    println!("cargo:rustc-link-search=native={}", root.join("target/staticlib").display());
+    println!("cargo:rustc-link-search=native={}", root.join("crates/exports/out").display());
     println!("cargo:rustc-link-lib=static=exports");
-    for path in ["target/staticlib/libexports.a", "crates", "crates.txt"] {
-        println!("cargo:rerun-if-changed={}", root.join(path).display());
+    for path in [archive, root.join("crates.txt")] {
+        println!("cargo:rerun-if-changed={}", path.display());
+    }
+    for entry in fs::read_dir(root.join("crates"))? {
+        let folder = entry?.path();
+        for part in ["src", "specs", "proofs"] {
+            let part = folder.join(part);
+            if part.is_dir() {
+                println!("cargo:rerun-if-changed={}", part.display());
+            }
+        }
     }
     Ok(())
 }
