@@ -72,6 +72,9 @@ pub record Standing (text : List ℕ) (at : ℕ) (j R : Judged) : Type 0 where
   pub place≤ : at ≤ length text + 1
   pub comes : with_lines j (lines (drop at text)) ≡ R
 
+pub standing_start : (text : List ℕ) (j : Judged) → Standing text 0 j (with_lines j (lines text))
+standing_start text j = record { place≤ = omega arith; comes = refl }
+
 pub standing_end : (text : List ℕ) (at : ℕ) (j R : Judged) → j.more ≡ false → Standing text at j R → j ≡ R
 standing_end text at j R h s = sym (stays j (lines (drop at text)) h) ∙ s.comes
 

@@ -2,12 +2,12 @@
 use Prim.Native.Nat.{ℕ, zero, suc, ◌+◌, ◌-◌, ◌*◌, ◌≤◌, ◌<◌}
 use mathlib.Core.Path.{◌≡◌, refl, ap, sym, ◌∙◌}
 use mathlib.Core.List.{List}
-use mathlib.Core.Bool.{Bool, true, false, cond, ◌&&◌, ◌||◌}
+use mathlib.Core.Bool.{Bool, true, false, not, cond, ◌&&◌, ◌||◌}
 use mathlib.Core.Logic.{◌⊎◌, inl, inr}
 use native.Mathlib.Omega.{arith}
 use lib.ListN.{length}
 use lib.Dec.{eqb, leb}
-use borrow.Author.Tests.{eq-eqb, ne_eqb, leb-true, eqb-true}
+use borrow.Author.Tests.{eq-eqb, ne_eqb, leb-true, eqb-true, not-true, not-false}
 use Rattle.aldlf.proofs.Bools.{and_left, and_right}
 use Rattle.text.specs.Text.{is_digit}
 use Rattle.aldlf.specs.Sheet.{ahead, back, stay}
@@ -193,6 +193,13 @@ module _ (b c keep x : ℕ) (o a : Bool) (w u v k : Work) where
   pub stops_here : ¬ (x ≡ b) → ¬ (x ≡ c) → u ≡ put_if a b w → v ≡ put_if o c u → stops v ≡ followed b c keep x o a w
   unfolding followed
   stops_here h i l m = rw (ne_eqb x b h, ne_eqb x c i, m, l)
+
+-- what the outcome of a test that a function answers says of the test
+pub yes_is : {r b : Bool} → r ≡ b → not r ≡ false → b ≡ true
+yes_is {r} e h = sym e ∙ not-false r h
+
+pub no_is : {r b : Bool} → r ≡ b → not r ≡ true → b ≡ false
+no_is {r} e h = sym e ∙ not-true r h
 
 or_is : (a b : Bool) → a || b ≡ true → (a ≡ true) ⊎ (b ≡ true)
 or_is true b e = inl refl
