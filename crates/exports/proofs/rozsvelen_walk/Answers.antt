@@ -1,0 +1,36 @@
+-- `rozsvelen_walk` meets its contract: the answer of showing a walk of the table that the numbers give. Assumes nothing.
+use mathlib.Core.Path.{refl}
+use Rattle.crossing.specs.Numbers.{table_of}
+use native.Mathlib.Omega.{arith}
+use Rattle.walk.proofs.Told.{told_count}
+use Rattle.exports.proofs.Walks.{walk-shown, walk_refused}
+use Rattle.exports.proofs.rozsvelen_walk.Goals as goal
+
+pub code-requires : goal.code-requires
+code-requires c =
+    let a = c.args in
+    let t = table_of a.table.now in
+    let w = c.walk_lent-r in
+    let s = c.in-Shown in
+    let few = told_count t a.log.now _ _ a.edges.now _ w.result (w.ensures t c.lend_table.ensures) s.n s.is in
+    (omega arith, omega (arith, few.1))
+
+pub returns-in-Shown : goal.returns-in-Shown
+returns-in-Shown c =
+    let a = c.args in
+    let t = table_of a.table.now in
+    let k = c.node_of in
+    let i = c.entry_of in
+    let w = c.walk_lent-r in
+    let s = c.in-Shown in
+    walk-shown a.table.now a.log.now a.node a.entry _ _ a.edges.now _ t w.result _ refl k.ensures i.ensures (w.ensures t c.lend_table.ensures) s.n s.is c.code.ensures
+
+pub returns-in-Refused : goal.returns-in-Refused
+returns-in-Refused c =
+    let a = c.args in
+    let t = table_of a.table.now in
+    let k = c.node_of in
+    let i = c.entry_of in
+    let w = c.walk_lent-r in
+    let s = c.in-Refused in
+    walk_refused a.table.now a.log.now a.node a.entry _ _ a.edges.now _ t w.result _ refl k.ensures i.ensures (w.ensures t c.lend_table.ensures) s.q s.is c.code-in-Refused.ensures
