@@ -1,0 +1,30 @@
+-- refused_page meets its contract: the line fits in the buffer, and what is there is handed over. Assumes nothing.
+use Prim.Native.Nat.{ℕ}
+use mathlib.Core.Path.{ap, sym, ◌∙◌}
+use mathlib.Core.List.{List}
+use native.Mathlib.Omega.{arith}
+use lib.ListN.{replicate, length-replicate}
+use lib.Seq.{length-take-le}
+use Rattle.appending.specs.Placed.{placed}
+use Rattle.appending.proofs.Storing.{appends_whole}
+use Rattle.appending.proofs.Placed.{stored_there}
+use Rattle.lines.specs.Lines.{refusal_line}
+use Rattle.lines.proofs.Lengths.{refusal_length}
+use Rattle.formula_report.proofs.refused_page.Goals as goal
+
+pub slice_bounds-buffer-end : goal.slice_bounds-buffer-end
+slice_bounds-buffer-end c = let p = c.put_refusal-n in omega (arith, (appends_whole _ _ _ _ p.ensures).place, p.auto.out)
+
+pub slice_bounds-hand_over-end : goal.slice_bounds-hand_over-end
+slice_bounds-hand_over-end c =
+    let p = c.put_refusal-n in
+    sym (length-take-le p.result p.new.out (omega (arith, (appends_whole _ _ _ _ p.ensures).place, p.auto.out)))
+
+pub returns : goal.returns
+returns c =
+    let a = c.args in
+    let p = c.put_refusal-n in
+    let fits = refusal_length a.number a.place (omega arith) (omega arith) in
+    c.hand_over.ensures
+    ∙ ap (λ (l : List ℕ). placed 44 l a.out.now)
+    (stored_there (refusal_line a.number a.place) (replicate 22 0) p.new.out p.result (omega (arith, fits, length-replicate {A = ℕ} 22 0)) (appends_whole _ _ _ _ p.ensures))
