@@ -33,8 +33,8 @@ long c =
     let l = c.loop-k in
     same_verdicts (sheet_of w.0) a.words.now a.lengths.now a.verdicts.now a.held.now l.verdicts l.held l.at l.k (l.invariant w.0 w.1)
 
-long-held : (c : At-loop-k) → length c.loop-k.held ≡ length c.args.held.now
-long-held c =
+long_held : (c : At-loop-k) → length c.loop-k.held ≡ length c.args.held.now
+long_held c =
     let a = c.args in
     let w = c.requires.prepared in
     let l = c.loop-k in
@@ -88,10 +88,10 @@ overflow_cast-held c =
     omega (arith, c.judge_one-n.ensures.value w.0 w.1, held_le (sheet_of w.0) (take (l.at + n - l.at) (drop l.at a.words.now)), cut (goal.at.overflow_cast-held c).In-loop-k, (known (goal.at.overflow_cast-held c).In-loop-k).log.few)
 
 pub offset_bounds-held-k : goal.offset_bounds-held-k
-offset_bounds-held-k c = let t = (known (goal.at.offset_bounds-held-k c).In-loop-k).held_room in let e = long-held (goal.at.offset_bounds-held-k c).At-loop-k in omega arith
+offset_bounds-held-k c = let t = (known (goal.at.offset_bounds-held-k c).In-loop-k).held_room in let e = long_held (goal.at.offset_bounds-held-k c).At-loop-k in omega arith
 
 pub bounds-held-k : goal.bounds-held-k
-bounds-held-k c = let t = (known (goal.at.bounds-held-k c).In-loop-k).held_room in let e = long-held (goal.at.bounds-held-k c).At-loop-k in omega arith
+bounds-held-k c = let t = (known (goal.at.bounds-held-k c).In-loop-k).held_room in let e = long_held (goal.at.bounds-held-k c).At-loop-k in omega arith
 
 pub loop-k-preserved : goal.loop-k-preserved
 loop-k-preserved c =
@@ -106,7 +106,7 @@ pub shape_of-verdicts : goal.shape_of-verdicts
 shape_of-verdicts c = long (goal.at.shape_of-verdicts c).At-loop-k
 
 pub shape_of-held : goal.shape_of-held
-shape_of-held c = long-held (goal.at.shape_of-held c).At-loop-k
+shape_of-held c = long_held (goal.at.shape_of-held c).At-loop-k
 
 pub returns : goal.returns
 returns c =

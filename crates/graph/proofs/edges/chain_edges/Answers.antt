@@ -14,8 +14,8 @@ room : (S : Start) (arcs : List ℕ) → length arcs ≡ length S.args.arcs.now 
 room S arcs e = omega (arith, S.requires.numbers_len.2)
 
 -- what the edge that was read is asked for
-edge-fits : (c : After-edge_at-x) → EdgeFits 16 c.edge_at-x.result
-edge-fits c =
+edge_in_order : (c : After-edge_at-x) → EdgeFits 16 c.edge_at-x.result
+edge_in_order c =
     let l = c.loop-e in
     subst (EdgeFits 16) (sym c.edge_at-x.ensures) (c.requires.by_index (l.e - 1) (omega (arith, c.loop-e-test.true)) (omega (arith, l.invariant.1, c.loop-e-test.true)))
 
@@ -34,7 +34,7 @@ edge_at-x-requires c = (c.requires.numbers_len.0, omega (arith, c.loop-e-test.tr
 pub link-requires : goal.link-requires
 link-requires c =
     let l = c.loop-e in
-    record { edge_fits = edge-fits (goal.at.link-requires c).After-edge_at-x; e_lt_edge_limit = (omega (arith, l.invariant.1, c.loop-e-test.true, c.requires.numbers_len.1), room (goal.at.link-requires c).Start l.arcs l.invariant.2) }
+    record { edge_fits = edge_in_order (goal.at.link-requires c).After-edge_at-x; e_lt_edge_limit = (omega (arith, l.invariant.1, c.loop-e-test.true, c.requires.numbers_len.1), room (goal.at.link-requires c).Start l.arcs l.invariant.2) }
 
 pub loop-e-smaller : goal.loop-e-smaller
 loop-e-smaller c = omega (arith, c.loop-e-test.true)
@@ -49,7 +49,7 @@ loop-e-preserved c =
       c.link.auto.arcs ∙ l.invariant.2,
       λ t P.
           chained_more t.edges (l.e - 1) last _ l.arcs (subst (λ (x : ℕ). Chained t.edges x last l.arcs) (let y : l.e ≡ l.e - 1 + 1 = omega (arith, below) in y) (l.invariant.3 t P)) (omega (arith, l.invariant.1, below)) c.requires.numbers_len.1 (room (goal.at.loop-e-preserved c).Start l.arcs l.invariant.2)
-          (c.edge_at-x.ensures ∙ P.edge_is (l.e - 1) (omega (arith, l.invariant.1, below, c.requires.numbers_len.1))) (edge-fits (goal.at.loop-e-preserved c).After-edge_at-x) _ c.link.ensures,
+          (c.edge_at-x.ensures ∙ P.edge_is (l.e - 1) (omega (arith, l.invariant.1, below, c.requires.numbers_len.1))) (edge_in_order (goal.at.loop-e-preserved c).After-edge_at-x) _ c.link.ensures,
     )
 
 pub shape_of-arcs : goal.shape_of-arcs

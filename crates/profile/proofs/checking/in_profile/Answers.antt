@@ -15,8 +15,8 @@ use Rattle.profile.proofs.checking.in_profile.Goals as goal
 use Rattle.profile.proofs.checking.in_profile.Goals.{In-loop-k}
 
 -- the line looked at is on the sheet
-in-sheet : (c : In-loop-k) → (t : Table) → Packed t c.args.numbers.now → c.loop-k.k < t.used.nodes
-in-sheet c t P = omega (arith, c.loop-k-test.true, c.loop-k.invariant.1 t P)
+in_sheet : (c : In-loop-k) → (t : Table) → Packed t c.args.numbers.now → c.loop-k.k < t.used.nodes
+in_sheet c t P = omega (arith, c.loop-k-test.true, c.loop-k.invariant.1 t P)
 
 pub used_in-n-requires : goal.used_in-n-requires
 used_in-n-requires c = c.requires.1.size
@@ -25,17 +25,17 @@ pub loop-k-init : goal.loop-k-init
 loop-k-init c = (omega arith, λ t P. ap (λ (u : Used). u.nodes) (c.used_in-n.ensures ∙ P.used_is), λ t P w. each_none (line_in_profile t.nodes))
 
 pub line_in_profile-requires : goal.line_in_profile-requires
-line_in_profile-requires c = let (t, P, w) = c.requires in (t, P, w, in-sheet (goal.at.line_in_profile-requires c).In-loop-k t P)
+line_in_profile-requires c = let (t, P, w) = c.requires in (t, P, w, in_sheet (goal.at.line_in_profile-requires c).In-loop-k t P)
 
 pub returns-then-not-line_in_profile : goal.returns-then-not-line_in_profile
 unfolding in_profile
 returns-then-not-line_in_profile c = λ t P w.
-    each_no (line_in_profile t.nodes) c.loop-k.k t.used.nodes (in-sheet (goal.at.returns-then-not-line_in_profile c).In-loop-k t P) (no_is (c.line_in_profile.ensures t P w (in-sheet (goal.at.returns-then-not-line_in_profile c).In-loop-k t P)) (ap not c.if-not-line_in_profile.true))
+    each_no (line_in_profile t.nodes) c.loop-k.k t.used.nodes (in_sheet (goal.at.returns-then-not-line_in_profile c).In-loop-k t P) (no_is (c.line_in_profile.ensures t P w (in_sheet (goal.at.returns-then-not-line_in_profile c).In-loop-k t P)) (ap not c.if-not-line_in_profile.true))
 
 pub overflow_add-k : goal.overflow_add-k
 overflow_add-k c =
     let (t, P, w) = c.requires in
-    omega (arith, in-sheet (goal.at.overflow_add-k c).In-loop-k t P, (table_facts t w).nodes≤)
+    omega (arith, in_sheet (goal.at.overflow_add-k c).In-loop-k t P, (table_facts t w).nodes≤)
 
 pub loop-k-smaller : goal.loop-k-smaller
 loop-k-smaller c = omega (arith, c.loop-k-test.true)
@@ -45,7 +45,7 @@ loop-k-preserved c =
     let l = c.loop-k in (
       omega (arith, c.loop-k-test.true),
       l.invariant.1,
-      λ t P w. each_on (line_in_profile t.nodes) l.k (l.invariant.2 t P w) (yes_is (c.line_in_profile.ensures t P w (in-sheet (goal.at.loop-k-preserved c).In-loop-k t P)) (ap not c.if-not-line_in_profile.false)),
+      λ t P w. each_on (line_in_profile t.nodes) l.k (l.invariant.2 t P w) (yes_is (c.line_in_profile.ensures t P w (in_sheet (goal.at.loop-k-preserved c).In-loop-k t P)) (ap not c.if-not-line_in_profile.false)),
     )
 
 pub returns : goal.returns

@@ -16,8 +16,8 @@ use Rattle.profile.proofs.checking.line_in_profile.Goals as goal
 use Rattle.profile.proofs.checking.line_in_profile.Goals.{After-line_at-x}
 
 -- the line read is the table's
-line-is : (c : After-line_at-x) → (t : Table) → Packed t c.args.numbers.now → well_formed t ≡ true → c.args.k.0 < t.used.nodes → c.line_at-x.result ≡ node_at t c.args.k.0
-line-is c t P w l = c.line_at-x.ensures ∙ P.line_is c.args.k.0 (names_small t w c.args.k.0 l).0
+line_is : (c : After-line_at-x) → (t : Table) → Packed t c.args.numbers.now → well_formed t ≡ true → c.args.k.0 < t.used.nodes → c.line_at-x.result ≡ node_at t c.args.k.0
+line_is c t P w l = c.line_at-x.ensures ∙ P.line_is c.args.k.0 (names_small t w c.args.k.0 l).0
 
 pub line_at-x-requires : goal.line_at-x-requires
 line_at-x-requires c = let (t, P, w, l) = c.requires in (P.size, (names_small t w c.args.k.0 l).0)
@@ -25,18 +25,18 @@ line_at-x-requires c = let (t, P, w, l) = c.requires in (P.size, (names_small t 
 pub returns-then-x-ne78 : goal.returns-then-x-ne78
 returns-then-x-ne78 c = λ t P w l.
     let k = c.args.k.0 in
-    in_other t.nodes k (λ e. c.if-x-ne78.true (ap (λ (x : NodeLine). x.kind) (line-is (goal.at.returns-then-x-ne78 c).After-line_at-x t P w l) ∙ e))
+    in_other t.nodes k (λ e. c.if-x-ne78.true (ap (λ (x : NodeLine). x.kind) (line_is (goal.at.returns-then-x-ne78 c).After-line_at-x t P w l) ∙ e))
 
 pub line_at-y-requires : goal.line_at-y-requires
 line_at-y-requires c =
     let (t, P, w, l) = c.requires in
-    let e = line-is (goal.at.line_at-y-requires c).After-line_at-x t P w l in
+    let e = line_is (goal.at.line_at-y-requires c).After-line_at-x t P w l in
     (P.size, omega (arith, ap (λ (x : NodeLine). x.a) e, (names_small t w c.args.k.0 l).1 (sym (ap (λ (x : NodeLine). x.kind) e) ∙ c.if-x-ne78.false)))
 
 pub returns : goal.returns
 returns c = λ t P w l.
     let k = c.args.k.0 in
-    let e = line-is (goal.at.returns c).After-line_at-x t P w l in
+    let e = line_is (goal.at.returns c).After-line_at-x t P w l in
     let n = sym (ap (λ (x : NodeLine). x.kind) e) ∙ c.if-x-ne78.false in
     ap (λ (x : NodeLine). eqb x.kind letter_p)
     (c.line_at-y.ensures ∙ ap (λ (x : NodeLine). lent_line c.args.numbers.now x.a) e ∙ P.line_is (node_at t k).a ((names_small t w k l).1 n))

@@ -14,8 +14,8 @@ abbrev answer : ℕ → Table → ProfileAnswer
 answer number table = record { number = number; table = table }
 
 -- where no question got a no there is room
-with-room : (c : Else-q-ne0) → (t : Table) → Packed t c.args.numbers.now → ProfileRoom t c.args.numbers.now
-with-room c t P =
+with_room : (c : Else-q-ne0) → (t : Table) → Packed t c.args.numbers.now → ProfileRoom t c.args.numbers.now
+with_room c t P =
     let a = accepted_of t (sym (c.profile_question-q.ensures t P) ∙ c.if-q-ne0.false) in
     record { packed = P; given = a.given; room = a.room }
 
@@ -25,9 +25,9 @@ returns-then-q-ne0 c = λ t P.
     ap (answer q.result) c.empty_table-t.ensures ∙ outcome_no t q.result (q.ensures t P) c.if-q-ne0.true
 
 pub profile_of-t-requires : goal.profile_of-t-requires
-profile_of-t-requires c = (c.requires.0, with-room (goal.at.profile_of-t-requires c).Else-q-ne0 c.requires.0 c.requires.1)
+profile_of-t-requires c = (c.requires.0, with_room (goal.at.profile_of-t-requires c).Else-q-ne0 c.requires.0 c.requires.1)
 
 pub returns : goal.returns
 returns c = λ t P.
     let q = c.profile_question-q in
-    outcome_yes t c.profile_of-t.result q.result (q.ensures t P) c.if-q-ne0.false (c.profile_of-t.ensures t (with-room (goal.at.returns c).Else-q-ne0 t P))
+    outcome_yes t c.profile_of-t.result q.result (q.ensures t P) c.if-q-ne0.false (c.profile_of-t.ensures t (with_room (goal.at.returns c).Else-q-ne0 t P))

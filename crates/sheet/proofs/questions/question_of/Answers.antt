@@ -11,8 +11,8 @@ use mathlib.Core.Bool.{not}
 use Rattle.sheet.proofs.questions.question_of.Goals as goal
 
 -- question 7 does not stop: its answer, beside the automaton that was found
-yes-7 : (u : Used) (x y : Automaton) (l : Line) (s : Stop) → x ≡ y → s ≡ out_of_range u x l → s.number ≡ 0 → (out_of_range u y l).number ≡ 0
-yes-7 u x y l s m e z = ap (λ (s : Stop). s.number) (ap (λ (x : Automaton). out_of_range u x l) (sym m) ∙ sym e) ∙ z
+yes_7 : (u : Used) (x y : Automaton) (l : Line) (s : Stop) → x ≡ y → s ≡ out_of_range u x l → s.number ≡ 0 → (out_of_range u y l).number ≡ 0
+yes_7 u x y l s m e z = ap (λ (s : Stop). s.number) (ap (λ (x : Automaton). out_of_range u x l) (sym m) ∙ sym e) ∙ z
 
 pub returns-then-not-known_line : goal.returns-then-not-known_line
 returns-then-not-known_line c =
@@ -64,7 +64,7 @@ returns-then-not-newly_accepting c =
     (yes_is c.all_numbers.ensures (ap not c.if-not-all_numbers.false))
     (yes_is c.room_left.ensures (ap not c.if-not-room_left.false))
     (yes_is c.belongs_here.ensures (ap not c.if-not-belongs_here.false))
-    (yes-7 s.r.table.used _ _ s.l _ c.last_of-x.ensures c.out_of_range-wrong.ensures c.if-wrong-ne0.false)
+    (yes_7 s.r.table.used _ _ s.l _ c.last_of-x.ensures c.out_of_range-wrong.ensures c.if-wrong-ne0.false)
     (no_is (c.newly_accepting.ensures ∙ ap (λ (x : Automaton). newly_accepting x s.l) c.last_of-x.ensures) (ap not c.if-not-newly_accepting.true))
 
 pub returns-then-not-plain_step : goal.returns-then-not-plain_step
@@ -75,7 +75,7 @@ returns-then-not-plain_step c =
     (yes_is c.all_numbers.ensures (ap not c.if-not-all_numbers.false))
     (yes_is c.room_left.ensures (ap not c.if-not-room_left.false))
     (yes_is c.belongs_here.ensures (ap not c.if-not-belongs_here.false))
-    (yes-7 s.r.table.used _ _ s.l _ c.last_of-x.ensures c.out_of_range-wrong.ensures c.if-wrong-ne0.false)
+    (yes_7 s.r.table.used _ _ s.l _ c.last_of-x.ensures c.out_of_range-wrong.ensures c.if-wrong-ne0.false)
     (yes_is (c.newly_accepting.ensures ∙ ap (λ (x : Automaton). newly_accepting x s.l) c.last_of-x.ensures) (ap not c.if-not-newly_accepting.false))
     (no_is c.plain_step.ensures (ap not c.if-not-plain_step.true))
 
@@ -87,6 +87,6 @@ returns c =
     (yes_is c.all_numbers.ensures (ap not c.if-not-all_numbers.false))
     (yes_is c.room_left.ensures (ap not c.if-not-room_left.false))
     (yes_is c.belongs_here.ensures (ap not c.if-not-belongs_here.false))
-    (yes-7 s.r.table.used _ _ s.l _ c.last_of-x.ensures c.out_of_range-wrong.ensures c.if-wrong-ne0.false)
+    (yes_7 s.r.table.used _ _ s.l _ c.last_of-x.ensures c.out_of_range-wrong.ensures c.if-wrong-ne0.false)
     (yes_is (c.newly_accepting.ensures ∙ ap (λ (x : Automaton). newly_accepting x s.l) c.last_of-x.ensures) (ap not c.if-not-newly_accepting.false))
     (yes_is c.plain_step.ensures (ap not c.if-not-plain_step.false))

@@ -18,9 +18,9 @@ few : (c : In-loop-c) → c.args.x.first + c.loop-c.c < edge_limit
 few c = omega (arith, c.loop-c-test.true, c.requires.1)
 
 -- and its direction is the sheet's
-dir-is : (c : After-edge_at-e) → (t : Table) → Packed t c.args.numbers.now → dir_of c.edge_at-e.result.dir ≡ ((sheet_of t).edge (c.args.x.first + c.loop-c.c)).dir
+dir_is : (c : After-edge_at-e) → (t : Table) → Packed t c.args.numbers.now → dir_of c.edge_at-e.result.dir ≡ ((sheet_of t).edge (c.args.x.first + c.loop-c.c)).dir
 unfolding sheet_of
-dir-is c t P = ap (λ (e : Edge). dir_of e.dir) (c.edge_at-e.ensures ∙ P.edge_is (c.args.x.first + c.loop-c.c) ((omega (arith, c.loop-c-test.true, c.requires.1))))
+dir_is c t P = ap (λ (e : Edge). dir_of e.dir) (c.edge_at-e.ensures ∙ P.edge_is (c.args.x.first + c.loop-c.c) ((omega (arith, c.loop-c-test.true, c.requires.1))))
 
 pub loop-c-init : goal.loop-c-init
 loop-c-init c = (omega arith, λ t P. (or_no c.args.looks.ahead, or_no c.args.looks.back))
@@ -38,7 +38,7 @@ loop-c-preserved c =
       omega (arith, c.loop-c-test.true),
       λ t P.
           let was = l.invariant.1 t P in
-          let is = dir-is (goal.at.loop-c-preserved c).After-edge_at-e t P in (
+          let is = dir_is (goal.at.loop-c-preserved c).After-edge_at-e t P in (
             any_next c.args.looks.ahead _ _ l.c (λ e. same_dir ((sheet_of t).edge (c.args.x.first + e)).dir ahead) was.0 (is_ahead d ∙ ap (λ (z : Dir). same_dir z ahead) is),
             any_next c.args.looks.back _ _ l.c (λ e. same_dir ((sheet_of t).edge (c.args.x.first + e)).dir back) was.1 (is_back d ∙ ap (λ (z : Dir). same_dir z back) is),
           ),

@@ -25,8 +25,8 @@ read : (c : After-line_at-line) → (t : Table) → Lent t c.args.numbers.now �
 read c t L = c.line_at-line.ensures ∙ line_lent t c.args.numbers.now L c.args.node.0 c.requires.asked_len.1
 
 -- and so is the sheet's line
-line-is : (c : After-line_at-line) → let x = c.line_at-line.result in (t : Table) → Lent t c.args.numbers.now → line_of x.kind x.a x.b ≡ (sheet_of t).line c.args.node.0
-line-is c t L = line_read t c.args.node.0 c.line_at-line.result (read c t L)
+line_is : (c : After-line_at-line) → let x = c.line_at-line.result in (t : Table) → Lent t c.args.numbers.now → line_of x.kind x.a x.b ≡ (sheet_of t).line c.args.node.0
+line_is c t L = line_read t c.args.node.0 c.line_at-line.result (read c t L)
 
 -- the automaton of a D or B line is in use
 there : (c : Then-kind) → c.line_at-line.result.a < (lent_used c.args.numbers.now).automata
@@ -47,7 +47,7 @@ pub returns-then-asked-m : goal.returns-then-asked-m
 returns-then-asked-m c =
     let x = c.line_at-line.result in
     λ t L. (
-      with_modal (sheet_of t) x.kind x.a x.b ((sheet_of t).line c.args.node.0) (line-is (goal.at.returns-then-asked-m c).After-line_at-line t L) c.args.looks c.args.looks (either_letter _ letter_d letter_b c.if-kind.true) (c.requires.asked t L x.a c.if-asked-m.true),
+      with_modal (sheet_of t) x.kind x.a x.b ((sheet_of t).line c.args.node.0) (line_is (goal.at.returns-then-asked-m c).After-line_at-line t L) c.args.looks c.args.looks (either_letter _ letter_d letter_b c.if-kind.true) (c.requires.asked t L x.a c.if-asked-m.true),
       c.requires.asked t L,
     )
 
@@ -69,7 +69,7 @@ returns-then-kind c =
     let x = c.line_at-line.result in
     λ t L.
     let w = edges_ways t x.a c.automaton_at.result c.args.looks c.with_edges.result (c.automaton_at.ensures ∙ L.packed.automaton_is x.a (named (goal.at.returns-then-kind c).Then-kind)) (c.with_edges.ensures t L.packed) in (
-      with_modal (sheet_of t) x.kind x.a x.b ((sheet_of t).line c.args.node.0) (line-is (goal.at.returns-then-kind c).After-line_at-line t L) c.args.looks c.with_edges.result (either_letter _ letter_d letter_b c.if-kind.true) w,
+      with_modal (sheet_of t) x.kind x.a x.b ((sheet_of t).line c.args.node.0) (line_is (goal.at.returns-then-kind c).After-line_at-line t L) c.args.looks c.with_edges.result (either_letter _ letter_d letter_b c.if-kind.true) w,
       asked_next (sheet_of t) x.a c.args.looks c.with_edges.result c.args.asked.now (c.requires.asked t L) w,
     )
 
@@ -77,4 +77,4 @@ pub returns : goal.returns
 returns c =
     let x = c.line_at-line.result in
     let none = neither_letter x.kind letter_d letter_b c.if-kind.false in
-    λ t L. (with_none (sheet_of t) x.kind x.a x.b ((sheet_of t).line c.args.node.0) (line-is (goal.at.returns c).After-line_at-line t L) c.args.looks c.args.looks none.0 none.1 refl, c.requires.asked t L)
+    λ t L. (with_none (sheet_of t) x.kind x.a x.b ((sheet_of t).line c.args.node.0) (line_is (goal.at.returns c).After-line_at-line t L) c.args.looks c.args.looks none.0 none.1 refl, c.requires.asked t L)

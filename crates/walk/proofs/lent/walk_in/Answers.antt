@@ -32,8 +32,8 @@ short c =
 room : (c : In_default) → 2 * length c.args.log.now ≤ length c.judge_lent-judged.new.verdicts
 room c = omega (arith, c.requires.log_in_bounds (short c), c.judge_lent-judged.auto.verdicts)
 
-lent-log : (c : In_default) → (t : Table) → Packed t c.args.numbers.now → LentLog t c.args.numbers.now (paired (take (2 * length c.args.log.now) c.judge_lent-judged.new.verdicts)) c.args.log.now
-lent-log c t P = let a = accepted c t P in record { lent = record { facts = table_facts t a.0; packed = P }; judged = a.1 }
+lent_log : (c : In_default) → (t : Table) → Packed t c.args.numbers.now → LentLog t c.args.numbers.now (paired (take (2 * length c.args.log.now) c.judge_lent-judged.new.verdicts)) c.args.log.now
+lent_log c t P = let a = accepted c t P in record { lent = record { facts = table_facts t a.0; packed = P }; judged = a.1 }
 
 pub returns-in-Refused : goal.returns-in-Refused
 returns-in-Refused c =
@@ -51,10 +51,10 @@ pub slice_bounds-walk_judged-end-2 : goal.slice_bounds-walk_judged-end-2
 slice_bounds-walk_judged-end-2 c = sym (length-take-le _ _ (room (goal.at.slice_bounds-walk_judged-end-2 c).In_default))
 
 pub walk_judged-requires : goal.walk_judged-requires
-walk_judged-requires c = (c.requires.packed.0, c.args.log.now, lent-log (goal.at.walk_judged-requires c).In_default c.requires.packed.0 c.requires.packed.1)
+walk_judged-requires c = (c.requires.packed.0, c.args.log.now, lent_log (goal.at.walk_judged-requires c).In_default c.requires.packed.0 c.requires.packed.1)
 
 pub returns : goal.returns
 returns c =
     λ t P.
-    c.walk_judged.ensures t c.args.log.now (lent-log (goal.at.returns c).In_default t P)
+    c.walk_judged.ensures t c.args.log.now (lent_log (goal.at.returns c).In_default t P)
     ∙ ap (λ (g : Bool). walk_outcome g (sheet_of t) c.args.log.now c.args.node.0 c.args.entry.0 c.args.edges.now) (sym (accepted (goal.at.returns c).In_default t P).0)
