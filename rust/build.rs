@@ -5,15 +5,16 @@ use std::path::Path;
 use std::process::Command;
 use std::time::SystemTime;
 
-/// When a file, or anything below a folder, was last changed; what `rt` keeps in a crate's `out` is no source.
+/// When a file, or any file below a folder, was last changed; what `rt` keeps in a crate's `out` is no source.
 fn changed(path: &Path) -> Result<SystemTime> {
-    let mut latest = fs::metadata(path)?.modified()?;
-    if path.is_dir() {
-        for entry in fs::read_dir(path)? {
-            let path = entry?.path();
-            if path.file_name().is_none_or(|name| name != "out") {
-                latest = latest.max(changed(&path)?);
-            }
+    if !path.is_dir() {
+        return fs::metadata(path)?.modified();
+    }
+    let mut latest = SystemTime::UNIX_EPOCH;
+    for entry in fs::read_dir(path)? {
+        let path = entry?.path();
+        if path.file_name().is_none_or(|name| name != "out") {
+            latest = latest.max(changed(&path)?);
         }
     }
     Ok(latest)

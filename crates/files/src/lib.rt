@@ -32,9 +32,9 @@ pub struct Contents {
 // The bytes of two files, each at the start of its buffer. Where the first one fails, the other is not opened.
 pub fn read_two(
     rt: &(impl Files + Eprint),
-    path: &str,
+    path: &[u8],
     buffer: &mut [u8],
-    other: &str,
+    other: &[u8],
     more: &mut [u8],
 ) -> Contents
     ensures prefix_len { IsPrefixLen result.first buffer.new }
@@ -63,10 +63,18 @@ pub fn read_two(
     }
 }
 
-// The bytes of a file at the start of `buffer`, as many as fit. A missing file has none.
-fn read_file(rt: &(impl Files + Eprint), path: &str, buffer: &mut [u8]) -> Content
+// The bytes of a file at the start of `buffer`, as many as fit. A missing file has none; one whose name is no text does not open.
+fn read_file(rt: &(impl Files + Eprint), path: &[u8], buffer: &mut [u8]) -> Content
     ensures { Within (length buffer.new) result }
 {
+    let Ok(path) = str::from_utf8(path) else {
+        fail(
+            rt,
+            "a file's name is no text",
+            &io::Error::from(ErrorKind::InvalidInput),
+        );
+        return Content::Failed;
+    };
     match File::open(rt, path) {
         Ok(mut file) => read_all(rt, &mut file, path, buffer),
         Err(e) => not_opened(rt, path, &e),

@@ -19,7 +19,7 @@ const STEPS_ROOM: usize = text::BYTES + 1;
 fn main(rt: HostRuntime) -> ExitCode {
     let mut rule = [0u8; RULE_ROOM];
     let mut steps = [0u8; STEPS_ROOM];
-    let texts = read_two(&rt, "rule.txt", &mut rule, "steps.txt", &mut steps);
+    let texts = read_two(&rt, b"rule.txt", &mut rule, b"steps.txt", &mut steps);
     let n = texts.first;
     let m = texts.second;
     if !texts.read {

@@ -12,7 +12,7 @@ const ROOM: usize = text::BYTES + 1;
 fn main(rt: HostRuntime) -> ExitCode {
     let mut rules = [0u8; ROOM];
     let mut steps = [0u8; ROOM];
-    let texts = read_two(&rt, "rules.txt", &mut rules, "steps.txt", &mut steps);
+    let texts = read_two(&rt, b"rules.txt", &mut rules, b"steps.txt", &mut steps);
     let n = texts.first;
     let m = texts.second;
     if !texts.read {
