@@ -11,7 +11,7 @@ pub returns-then-words-entry : goal.returns-then-words-entry
 returns-then-words-entry c = let a = c.args in digit_no_entry a.words.now a.entry a.node.0 c.if-node-ge-NODES.false c.if-words-entry.true
 
 pub verdict-requires : goal.verdict-requires
-verdict-requires c = (c.if-node-ge-NODES.false, omega (arith, c.if-words-entry.false))
+verdict-requires c = (omega arith, omega (arith, c.if-words-entry.false))
 
 pub returns-then-verdict : goal.returns-then-verdict
 returns-then-verdict c =

@@ -60,4 +60,4 @@ returns c =
     let l = c.loop-k in
     let a = c.args in
     let end = c.loop-k-test.false in
-    misfit_none a.words a.lengths.now (all_fit (goal.at.returns c).After-loop-k) (omega (arith, c.if-at-words.false, l.invariant.2, total_all a.lengths.now l.k end))
+    misfit_none a.words a.lengths.now (all_fit (goal.at.returns c).After-loop-k) (omega (arith, l.invariant.2, total_all a.lengths.now l.k end))

@@ -66,7 +66,7 @@ returns-then-count-k c =
 
 pub returns-then-words-i : goal.returns-then-words-i
 returns-then-words-i c = let a = c.args in
-    λ t log W. told_37 t (paired a.words.now) log W.judged a.node.0 a.entry.0 a.edges.now (below t _ _ _ W.lent c.if-count-k.false c.used_in-count.ensures) (omega (arith, c.if-words-i.true, length-paired a.words.now))
+    λ t log W. told_37 t (paired a.words.now) log W.judged a.node.0 a.entry.0 a.edges.now (below t _ a.node.0 c.used_in-count.result W.lent (omega arith) c.used_in-count.ensures) (omega (arith, c.if-words-i.true, length-paired a.words.now))
 
 pub line_at-line-requires : goal.line_at-line-requires
 line_at-line-requires c = (c.requires.2.lent.packed.size, (let L = c.requires.2.lent in omega (arith, below c.requires.0 _ c.args.node.0 _ L c.if-count-k.false c.used_in-count.ensures, L.facts.nodes≤)))

@@ -36,7 +36,7 @@ returns-then-out-count c = let e = total_is (goal.at.returns-then-out-count c).S
 
 pub trace-requires : goal.trace-requires
 trace-requires c =
-    let e = total_is (goal.at.trace-requires c).Start _ c.start_of-c.ensures.0 in record { ready = c.requires.ready; descends = c.requires.descends; inside = record { state_fits = c.requires.asked.start_fits; entry_fits = c.requires.asked.entry_fits }; distance_value = (sym e, omega (arith, c.if-total.false, c.shared_slice_known-4-1.given c.start_of-c.result), c.if-out-count.false) }
+    let e = total_is (goal.at.trace-requires c).Start _ c.start_of-c.ensures.0 in record { ready = c.requires.ready; descends = c.requires.descends; inside = record { state_fits = c.requires.asked.start_fits; entry_fits = c.requires.asked.entry_fits }; distance_value = (sym e, omega (arith, c.if-total.false, c.shared_slice_known-4-1.given c.start_of-c.result), omega arith) }
 
 pub returns : goal.returns
 returns c = let e = total_is (goal.at.returns c).Start _ c.start_of-c.ensures.0 in
