@@ -8,3 +8,4 @@ pub mod Outcomes
 pub mod Run
 pub mod Walks
 pub mod Jobs
+pub mod Refusals

@@ -21,10 +21,8 @@ pub fn put_bytes(out: &mut [u8], at: usize, bytes: &[u8]) -> usize
     ensures { Appends bytes.now out.old at out.new result }
 {
     let mut next = at;
-    let mut i: usize = 0;
-    while i < bytes.len() {
-        next = put(out, next, bytes[i]);
-        i += 1;
+    for &byte in bytes {
+        next = put(out, next, byte);
     }
     next
 }

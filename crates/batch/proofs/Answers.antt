@@ -6,7 +6,7 @@ use mathlib.Core.Bool.{Bool, true, false, cond}
 use mathlib.Core.List.{List}
 use lib.ListN.{length}
 use Rattle.aldlf.specs.Sheet.{Sheet}
-use Rattle.batch.specs.declared.BatchAnswer.{BatchAnswer}
+use Rattle.batch.specs.Batch.{BatchAnswer}
 use Rattle.batch.specs.Batch.{misfit, roomless, about, answer_to, BatchOutcome, batch_ends, verdicts_after, held_after, ends_by, batch_outcome}
 
 pub about_some : (q k : ℕ) (rest : BatchAnswer) → ¬ (k ≡ 0) → record { number = q; log = k } ≡ about q k rest

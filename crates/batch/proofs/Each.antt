@@ -16,7 +16,7 @@ use Rattle.aldlf.proofs.Words.{words_length}
 use Rattle.aldlf.proofs.Outcomes.{held_bits}
 use Rattle.sheet.specs.Given.{well_formed}
 use Rattle.sheet.proofs.Facts.{table_facts}
-use Rattle.batch.specs.declared.BatchAnswer.{BatchAnswer}
+use Rattle.batch.specs.Batch.{BatchAnswer}
 use Rattle.batch.specs.Right.{log_at}
 use Rattle.batch.specs.Batch.{logs_of, total, words_of, counts_of, first_log, fits, answer_to, BatchOutcome, batch_ends, verdicts_after, held_after, batch_outcome}
 use Rattle.batch.proofs.Firsts.{fits_yes, all_pass, misfit_yes, fits_within}

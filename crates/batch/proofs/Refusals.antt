@@ -12,7 +12,7 @@ use Rattle.aldlf.specs.Sheet.{sheet_of}
 use Rattle.aldlf.specs.declared.Table.{Table}
 use Rattle.aldlf.proofs.Bools.{and_intro, bool_cases, lt-or-le}
 use Rattle.sheet.specs.Given.{well_formed}
-use Rattle.batch.specs.declared.BatchAnswer.{BatchAnswer}
+use Rattle.batch.specs.Batch.{BatchAnswer}
 use Rattle.batch.specs.Batch.{list_limit, total, first_log, fits, has_room, misfit, roomless, answer_to, batch_outcome}
 use Rattle.batch.specs.Right.{Accepts, AllPass, Right, no_table, no_log, left_over, no_room, all_judged}
 use Rattle.batch.proofs.Firsts.{Fits, fits_yes, room_yes, all_pass, none_found, first_not, total_next, misfit_log, misfit_left, misfit_none, misfit_yes, fits_within, room_within}

@@ -1,9 +1,10 @@
 -- What judging a list of logs answers, for every input: the questions in order, the verdict words and the counts of all logs, both lent buffers.
-use Rattle.std.specs.Prelude.{ℕ, zero, suc, ◌+◌, ◌*◌, ◌-◌, Bool, true, false, cond, ◌&&◌, List, [], ◌∷◌, ◌++◌, leb, ltb, length, take, drop}
+use Rattle.std.specs.Prelude.{ℕ, zero, suc, ◌+◌, ◌*◌, ◌-◌, Bool, true, false, cond, ◌&&◌, List, [], ◌∷◌, ◌++◌, leb, ltb, length, take, drop, Option, Some, None, Result, Ok, Err}
 use Rattle.aldlf.specs.Constants.{entry_limit}
 use Rattle.aldlf.specs.Sheet.{Sheet}
 use Rattle.aldlf.specs.Outcomes.{log_words, held_in}
-use Rattle.batch.specs.declared.BatchAnswer.{BatchAnswer}
+use Rattle.aldlf.specs.Refusals.{refusal_number}
+use Rattle.batch.specs.declared.ListRefusal.{ListRefusal}
 
 -- At most so many logs in a list.
 abbrev pub list_limit : ℕ
@@ -53,6 +54,21 @@ misfit words lengths = elim (first_log (fits words) 0 0 lengths) [ zero ↦ left
 -- Question 33 of the list: the first log that has no room.
 abbrev pub roomless : (verdicts held : ℕ) → List ℕ → ℕ
 roomless verdicts held lengths = first_log (has_room verdicts held) 0 0 lengths
+
+-- A log that was found, counted from 1; 0 for none.
+abbrev pub log_of : Option ℕ → ℕ
+log_of (Some k) = suc k
+log_of None = 0
+
+-- Number 0: every log is judged. Else the number of the first question that gets a no, and which log it is about, counted from 1 (0: about no log).
+pub record BatchAnswer : Type 0 where
+  pub number : ℕ
+  pub log : ℕ
+
+-- The answer that a call gives as a result.
+abbrev pub batch_answer : {A : Type 0} → Result A ListRefusal → BatchAnswer
+batch_answer (Ok a) = record { number = 0; log = 0 }
+batch_answer (Err e) = record { number = refusal_number e.question; log = e.log }
 
 -- Refused by question q about log k; the rest of the questions where k is 0.
 abbrev pub about : (q k : ℕ) → BatchAnswer → BatchAnswer

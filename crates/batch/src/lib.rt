@@ -10,20 +10,19 @@ ghost use Rattle.aldlf.specs.Sheet.{sheet_of};
 ghost use Rattle.aldlf.specs.declared.Table.{Table};
 ghost use Rattle.packing.specs.Packed.{Packed};
 ghost use Rattle.sheet.specs.Given.{well_formed};
-ghost use Rattle.batch.specs.Batch.{batch_ends, batch_outcome};
+ghost use Rattle.batch.specs.Batch.{batch_answer, batch_ends, batch_outcome};
 
-use aldlf::Table;
+use aldlf::{Refusal, Table};
 use judge::lent::plain_of;
 use logs::judge_each;
 use packing::places::PLACES;
 use packing::writing::pack;
 use questions::asked;
 
-// What judging a list answers. Number 0: every log is judged. Else the number of the first question that gets a no (31, 32, 33),
-// and which log it is about, counted from 1 (0: about no log).
-#[derive(Clone, Copy)]
-pub struct BatchAnswer {
-    pub number: u8,
+// Why a list is refused: the first question that gets a no (31, 32, 33), and which log it is about, counted from 1 (0: about no log).
+#[derive(Clone, Copy, PartialEq, Eq)]
+pub struct ListRefusal {
+    pub question: Refusal,
     pub log: usize,
 }
 
@@ -36,8 +35,8 @@ pub fn judge_logs(
     lengths: &[u16],
     verdicts: &mut [u64],
     held: &mut [u16],
-) -> BatchAnswer
-    ensures { batch_ends result verdicts.new held.new ≡ batch_outcome (well_formed table) (sheet_of table) words.now lengths.now verdicts.old held.old }
+) -> Result<(), ListRefusal>
+    ensures { batch_ends (batch_answer result) verdicts.new held.new ≡ batch_outcome (well_formed table) (sheet_of table) words.now lengths.now verdicts.old held.old }
 {
     let mut numbers = [0u32; PLACES];
     pack(table, &mut numbers);
@@ -51,17 +50,14 @@ pub fn logs_lent(
     lengths: &[u16],
     verdicts: &mut [u64],
     held: &mut [u16],
-) -> BatchAnswer
+) -> Result<(), ListRefusal>
     requires { (t : Table) × Packed t numbers.now }
     ensures { (t : Table) → Packed t numbers.now
-        → batch_ends result verdicts.new held.new ≡ batch_outcome (well_formed t) (sheet_of t) words.now lengths.now verdicts.old held.old }
+        → batch_ends (batch_answer result) verdicts.new held.new ≡ batch_outcome (well_formed t) (sheet_of t) words.now lengths.now verdicts.old held.old }
 {
     let n = words.len();
-    let a = asked(numbers, n, lengths, verdicts.len(), held.len());
-    if a.number != 0 {
-        return a;
-    }
+    asked(numbers, n, lengths, verdicts.len(), held.len())?;
     let plain = plain_of(numbers);
     judge_each(plain, numbers, words, lengths, verdicts, held);
-    a
+    Ok(())
 }

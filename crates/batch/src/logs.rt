@@ -26,9 +26,8 @@ pub(crate) fn judge_each(
     ensures held_after { (t : Table) → Prepared t plain numbers.now → held.new ≡ held_after (sheet_of t) words.now lengths.now held.old }
 {
     let mut at: usize = 0;
-    let mut k: usize = 0;
-    while k < lengths.len() {
-        let end = at + lengths[k] as usize;
+    for (k, length) in lengths.iter().enumerate() {
+        let end = at + usize::from(*length);
         let n = judge_one(
             plain,
             numbers,
@@ -37,7 +36,6 @@ pub(crate) fn judge_each(
         );
         held[k] = n as u16;
         at = end;
-        k += 1;
     }
 }
 

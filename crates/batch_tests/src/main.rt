@@ -9,24 +9,12 @@ mod show;
 use std::io;
 
 fn main(rt: HostRuntime) -> io::Result<()> {
-    let mut input = [0u8; cases::INPUT];
-    let n = cases::read_input(&rt, &mut input)?;
-    each(&rt, &input[..n])
-}
-
-// The cases in order.
-fn each(rt: &impl Print, lines: &[u8]) -> io::Result<()> {
-    let mut at: usize = 0;
-    while at < lines.len() {
-        case(rt, text::line_at(lines, at))?;
-        at = cases::past(lines, b'\n', at);
-    }
-    Ok(())
+    cases::each(&rt, |line| case(&rt, line))
 }
 
 // A case's name and its outcome.
 fn case(rt: &impl Print, line: &[u8]) -> io::Result<()> {
-    show::put(rt, cases::field(line, 0))?;
+    rt.write_all(cases::field(line, 0))?;
     calls::list(rt, line)?;
-    show::put(rt, b"\n")
+    rt.write_all(b"\n")
 }

@@ -1,5 +1,5 @@
 -- A case's line: its fields, the text and the number that a field stands for.
-use Rattle.std.specs.Prelude.{ℕ, zero, suc, ◌+◌, ◌*◌, ◌-◌, ◌%◌, ◌≤◌, ◌<◌, min, ◌≡◌, List, cond, length, get_or, take, drop, set, ltb, eqb}
+use Rattle.std.specs.Prelude.{ℕ, zero, suc, ◌+◌, ◌*◌, ◌-◌, ◌%◌, ◌≤◌, ◌<◌, min, ◌≡◌, List, cond, length, get_or, take, drop, set, replicate, ltb, eqb}
 use Rattle.text.specs.Text.{up_to}
 
 -- the byte that parts the fields of a line
@@ -68,3 +68,11 @@ pub record PutText (f before after : List ℕ) (r : ℕ) : Type 0 where
   pub is : r ≡ min (bytes_of f) (length before)
   pub within : r ≤ length after
   pub holds : after ≡ written (part_of star f 0) (part_of star f 1) before r
+
+-- a field's text, as far as it has room in so many bytes
+unfoldable pub text_in : ℕ → List ℕ → List ℕ
+text_in room f = take (min (bytes_of f) room) (written (part_of star f 0) (part_of star f 1) (replicate room 0) (min (bytes_of f) room))
+
+-- the number in a line's field
+abbrev pub field_number : List ℕ → ℕ → ℕ
+field_number line k = number_of (part_of bar line k) (length (part_of bar line k))

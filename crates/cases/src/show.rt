@@ -1,16 +1,20 @@
-// What is printed of an outcome: bytes and numbers.
+// What is printed of an outcome.
+use aldlf::Refusal;
+use std::fmt::Display;
 use std::io;
 
-// A number behind a space.
-pub fn number(rt: &impl Print, n: u64) -> io::Result<()> {
-    put(rt, b" ")?;
-    digits(rt, n)
+// The numbers of a list, each behind a space.
+pub fn numbers<T: Copy + Display>(rt: &impl Print, xs: &[T]) -> io::Result<()> {
+    for &x in xs {
+        print!(rt; " {x}")?;
+    }
+    Ok(())
 }
 
-pub fn digits(rt: &impl Print, n: u64) -> io::Result<()> {
-    rt.print(n)
-}
-
-pub fn put(rt: &impl Print, s: &[u8]) -> io::Result<()> {
-    rt.write_all(s)
+// What an answer counts, behind its name, or a refusal's number.
+pub fn counted(rt: &impl Print, name: &str, answer: Result<usize, Refusal>) -> io::Result<()> {
+    match answer {
+        Ok(n) => print!(rt; " {name} {n}"),
+        Err(r) => print!(rt; " refused {}", r.number()),
+    }
 }

@@ -18,13 +18,16 @@ use Rattle.formula.specs.Outcome.{Read, accepted, refused, asked, steps_plain, f
 use Rattle.formula.specs.Code.{code}
 use Rattle.formula.proofs.Places.{read_iff, parsed_end}
 use Rattle.formula.proofs.Given.{writes_facts}
-use Rattle.parsing.specs.declared.Written as written
+use Rattle.parsing.specs.declared.refusal.FormulaRefusal.{FormulaRefusal}
+use Rattle.parsing.specs.declared.refusal.FormulaRefusal.TheVariants.{TooLarge}
 use Rattle.parsing.specs.Written as coded
 use Rattle.parsing.specs.Written.{Coded, code_limit, coded_by, coded_of, text_code}
-use Rattle.making.specs.declared.Making.{Making}
-use Rattle.making.specs.Run.{run, first_bench, making_of}
+use Rattle.std.specs.Prelude.{Option, Some, None, Ok, Err}
+use Rattle.std.specs.Option.{ok_or}
+use Rattle.aldlf.specs.declared.Table.{Table}
+use Rattle.making.specs.Run.{Making, run, first_bench, making_of, making_by}
 use Rattle.making.proofs.Request.{made_is}
-use Rattle.compile.specs.Answers.{answer_of, read_made, formula_answer}
+use Rattle.compile.specs.Answers.{FormulaAnswer, answer_by, answer_of, read_made, formula_answer}
 
 -- what instructions make
 unfoldable pub made_by : List ℕ → Making
@@ -34,6 +37,14 @@ made_by xs = making_of (run xs first_bench).made
 abbrev read_coded : Coded → Read
 read_coded (coded.coded xs) = read_made (made_by xs)
 read_coded (coded.refused n p) = refused n p
+
+-- a table that was made, or 53
+abbrev made_result : Option Table → FormulaAnswer
+made_result m = answer_by (ok_or m TooLarge)
+
+made_option : (m : Option Table) → made_result m ≡ answer_of (read_made (making_by m))
+made_option None = refl
+made_option (Some t) = refl
 
 module _ (text : List ℕ) where
   made_read : (a : Formula) → Writes a text → read_made (made_by (code a)) ≡ cond (fits_sheet a) (accepted (table_of a)) (refused 53 0)
@@ -67,23 +78,21 @@ module _ (text : List ℕ) where
       go true e = e
       go false e = refl
 
-  module _ (r : written.Written) (out : List ℕ) (h : coded_of r out ≡ text_code text) where
-    pub is_refused : ¬ (r.number ≡ 0) → answer_of (refused r.number r.place) ≡ formula_answer text
+  module _ (out : List ℕ) where
+    pub is_refused : (r : FormulaRefusal) → coded_of (Err r) out ≡ text_code text → answer_by (Err r) ≡ formula_answer text
     unfolding coded_of formula_answer
-    is_refused ne =
-        let k : coded.refused r.number r.place ≡ text_code text = rw (ne_eqb r.number 0 ne) at h in
-        ap (λ (z : Coded). answer_of (read_coded z)) k ∙ ap answer_of text_read
+    is_refused r h = ap (λ (z : Coded). answer_of (read_coded z)) h ∙ ap answer_of text_read
 
-    pub is_coded : r.number ≡ 0 → (n : ℕ) (m : Making) → length out ≡ code_limit → n ≡ min r.length code_limit → m ≡ made_by (take n out) → answer_of (read_made m) ≡ formula_answer text
+    pub is_coded : (l n : ℕ) (m : Option Table) → coded_of (Ok l) out ≡ text_code text → length out ≡ code_limit → n ≡ min l code_limit → making_by m ≡ made_by (take n out) → made_result m ≡ formula_answer text
     unfolding coded_of formula_answer
-    is_coded z n m size e f =
-        let k : coded.coded (take r.length out) ≡ text_code text = rw (eq-eqb r.number 0 z) at h in
-        let l : take n out ≡ take r.length out = taken n r.length e in
-        ap (λ (x : Making). answer_of (read_made x)) (f ∙ ap made_by l) ∙ ap (λ (x : Coded). answer_of (read_coded x)) k ∙ ap answer_of text_read
+    is_coded l n m h size e f =
+        made_option m
+        ∙ ap (λ (x : Making). answer_of (read_made x)) (f ∙ ap made_by (taken e))
+        ∙ ap (λ (x : Coded). answer_of (read_coded x)) h ∙ ap answer_of text_read
       where
-        taken : (n m : ℕ) → n ≡ min m code_limit → take n out ≡ take m out
-        taken n m e = pick (leb m code_limit) refl
+        taken : n ≡ min l code_limit → take n out ≡ take l out
+        taken e = pick (leb l code_limit) refl
           where
-            pick : (y : Bool) → leb m code_limit ≡ y → take n out ≡ take m out
-            pick true q = let b = borrow.Author.Tests.leb-true m code_limit q in ap (λ (x : ℕ). take x out) (let i : n ≡ m = omega arith in i)
-            pick false q = let b = borrow.Author.Tests.leb-false m code_limit q in take_all n out (omega arith) ∙ sym (take_all m out (omega arith))
+            pick : (y : Bool) → leb l code_limit ≡ y → take n out ≡ take l out
+            pick true q = let b = borrow.Author.Tests.leb-true l code_limit q in ap (λ (x : ℕ). take x out) (let i : n ≡ l = omega arith in i)
+            pick false q = let b = borrow.Author.Tests.leb-false l code_limit q in take_all n out (omega arith) ∙ sym (take_all l out (omega arith))

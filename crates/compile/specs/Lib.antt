@@ -1,2 +1,3 @@
+pub use Rattle.parsing.specs.Refusals
 pub mod Answers
 pub mod Right

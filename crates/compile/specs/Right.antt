@@ -9,8 +9,7 @@ use Rattle.formula.specs.Grammar.{Writes}
 use Rattle.formula.specs.Numbering.{newest}
 use Rattle.formula.specs.Outcome.{Read, steps_plain, fits_sheet}
 use Rattle.formula.specs.Answer.{Asked, Meant}
-use Rattle.compile.specs.declared.FormulaAnswer.{FormulaAnswer}
-use Rattle.compile.specs.Answers.{answer_of}
+use Rattle.compile.specs.Answers.{FormulaAnswer, answer_of}
 
 pub record FormulaRight (text : List ℕ) (r : FormulaAnswer) : Type 0 where
   -- the answer is the one that is meant: its number, its place, and all of its table

@@ -3,8 +3,10 @@
 // beside a refusal whether the table is all zeros. Of a long text its length and its start stand for it.
 #![tactic(auto)]
 
-use cases::show::{digits, number, put};
-use compile::FormulaAnswer;
+use aldlf::Table;
+use cases::sheets::sheet;
+use cases::zeros::zeros;
+use compile::FormulaRefusal;
 use std::io;
 
 // A text up to so long is printed whole, and of a longer one so many bytes.
@@ -13,47 +15,35 @@ const WHOLE: usize = 80;
 const START: usize = 20;
 
 fn main(rt: HostRuntime) -> io::Result<()> {
-    let mut input = [0u8; cases::INPUT];
-    let n = cases::read_input(&rt, &mut input)?;
-    each(&rt, &input[..n])
-}
-
-// The cases in order.
-fn each(rt: &impl Print, lines: &[u8]) -> io::Result<()> {
-    let mut at: usize = 0;
-    while at < lines.len() {
-        case(rt, text::line_at(lines, at))?;
-        at = cases::past(lines, b'\n', at);
-    }
-    Ok(())
+    cases::each(&rt, |line| case(&rt, line))
 }
 
 // A case's text and its outcome.
 fn case(rt: &impl Print, formula: &[u8]) -> io::Result<()> {
     shown(rt, formula)?;
     answered(rt, compile::read_formula(formula))?;
-    put(rt, b"\n")
+    rt.write_all(b"\n")
 }
 
 // The text, or its length and its start.
 fn shown(rt: &impl Print, formula: &[u8]) -> io::Result<()> {
     if formula.len() <= WHOLE {
-        put(rt, formula)
-    } else {
-        digits(rt, formula.len() as u64)?;
-        put(rt, b" ")?;
-        put(rt, &formula[..START])
+        return rt.write_all(formula);
     }
+    print!(rt; "{} ", formula.len())?;
+    rt.write_all(&formula[..START])
 }
 
-// The number and the place, and what the table holds.
-fn answered(rt: &impl Print, a: FormulaAnswer) -> io::Result<()> {
-    let t = a.table;
-    number(rt, a.number as u64)?;
-    number(rt, a.place as u64)?;
-    if a.number == 0 {
-        cases::sheets::sheet(rt, t)
-    } else {
-        cases::zeros::zeros(rt, t)
+// The number and the place, and what the table holds; beside a refusal, the zeros that stand for it.
+fn answered(rt: &impl Print, a: Result<Table, FormulaRefusal>) -> io::Result<()> {
+    match a {
+        Ok(table) => {
+            rt.write_all(b" 0 0")?;
+            sheet(rt, table)
+        }
+        Err(r) => {
+            print!(rt; " {} {}", r.number(), r.place())?;
+            zeros(rt)
+        }
     }
 }

@@ -20,11 +20,7 @@ pub fn lend_table(xs: &[u16], numbers: &mut [u32])
     requires { length numbers.old ≡ places }
     ensures { Packed (table_of xs.now) numbers.new }
 {
-    if xs.len() != TABLE {
-        clear(numbers);
-        return;
-    }
-    if !lend_fields(xs, numbers) {
+    if xs.len() != TABLE || !lend_fields(xs, numbers) {
         clear(numbers);
     }
 }
@@ -34,11 +30,7 @@ fn clear(numbers: &mut [u32])
     requires { length numbers.old ≡ places }
     ensures { Packed empty_table numbers.new }
 {
-    let mut i: usize = 0;
-    while i < packing::places::PLACES {
-        numbers[i] = 0;
-        i += 1;
-    }
+    numbers.fill(0);
 }
 
 // The fields that stand in the numbers, each cut to its size, and whether none was too large.
@@ -69,12 +61,10 @@ fn cut_edges(xs: &[u16], bytes: &mut [u8]) -> bool
     ensures { (result ≡ all_of edge_fits (edges_in xs.now)) × EdgesCut xs.now bytes.new }
 {
     let mut fit = true;
-    let mut k: usize = 0;
-    while k < EDGE_BYTES {
+    for (k, byte) in bytes.iter_mut().enumerate() {
         let x = xs[EDGES_PLACE + k];
-        fit = fit & (x < 256);
-        bytes[k] = (x % 256) as u8;
-        k += 1;
+        fit &= x < 256;
+        *byte = (x % 256) as u8;
     }
     fit
 }
@@ -83,10 +73,8 @@ fn put_edges(bytes: &[u8], numbers: &mut [u32])
     requires { (length bytes.now ≡ edge_bytes) × (length numbers.old ≡ places) }
     ensures { Put (λ (e p : ℕ). edge_in p ≡ edge_at bytes.now (edge_size * e)) 0 edge_limit numbers.old numbers.new }
 {
-    let mut k: usize = 0;
-    while k < aldlf::EDGES {
+    for k in 0..aldlf::EDGES {
         numbers[k] = edge_number(bytes, EDGE * k);
-        k += 1;
     }
 }
 
@@ -106,13 +94,12 @@ fn lines_to_lend(xs: &[u16]) -> usize
     requires { length xs.now ≡ table_size }
     ensures { (result ≤ node_limit) × NoLinesFrom xs.now result }
 {
-    let used = wide(xs[USED_PLACE]) as usize;
-    if used < aldlf::NODES {
-        if no_lines_from(xs, used) {
-            return used;
-        }
+    let used = usize::from(xs[USED_PLACE]);
+    if used < aldlf::NODES && no_lines_from(xs, used) {
+        used
+    } else {
+        aldlf::NODES
     }
-    aldlf::NODES
 }
 
 // Whether the numbers of the node lines from n on are all zeros; with no way out of the loop, so that the machine does many places at a time.
@@ -121,10 +108,8 @@ fn no_lines_from(xs: &[u16], n: usize) -> bool
     ensures { result ≡ true → NoLinesFrom xs.now n }
 {
     let mut rest: u16 = 0;
-    let mut i = LINE * n;
-    while i < LINE * aldlf::NODES {
-        rest = rest | xs[i];
-        i += 1;
+    for &x in &xs[LINE * n..LINE * aldlf::NODES] {
+        rest |= x;
     }
     rest == 0
 }
@@ -135,12 +120,10 @@ fn lend_first_lines(n: usize, xs: &[u16], numbers: &mut [u32]) -> bool
     ensures { (result ≡ all_of line_fits (first_lines xs.now n)) × Put (λ (k p : ℕ). line_in p ≡ get_or (cut_in xs.now).nodes k no_line) lines_place n numbers.old numbers.new }
 {
     let mut fit = true;
-    let mut k: usize = 0;
-    while k < n {
+    for k in 0..n {
         let p = LINE * k;
-        fit = fit & line_fits(xs, p);
+        fit &= line_fits(xs, p);
         numbers[LINES + k] = line_number(xs, p);
-        k += 1;
     }
     fit
 }
@@ -150,11 +133,7 @@ fn clear_lines(n: usize, numbers: &mut [u32])
     requires { (n ≤ node_limit) × (length numbers.old ≡ places) }
     ensures { Put (λ (k p : ℕ). p ≡ 0) (lines_place + n) (node_limit - n) numbers.old numbers.new }
 {
-    let mut k = n;
-    while k < aldlf::NODES {
-        numbers[LINES + k] = 0;
-        k += 1;
-    }
+    numbers[LINES + n..LINES + aldlf::NODES].fill(0);
 }
 
 fn lend_automata(xs: &[u16], numbers: &mut [u32]) -> bool
@@ -162,12 +141,10 @@ fn lend_automata(xs: &[u16], numbers: &mut [u32]) -> bool
     ensures { (result ≡ all_of automaton_fits (automata_in xs.now)) × HeadsPut (cut_in xs.now).automata automaton_limit numbers.old numbers.new }
 {
     let mut fit = true;
-    let mut k: usize = 0;
-    while k < aldlf::AUTOMATA {
+    for k in 0..aldlf::AUTOMATA {
         let p = AUTOMATA_PLACE + AUTOMATON * k;
-        fit = fit & automaton_fits(xs, p);
+        fit &= automaton_fits(xs, p);
         lend_automaton(xs, p, k, numbers);
-        k += 1;
     }
     fit
 }
@@ -177,18 +154,20 @@ fn lend_automaton(xs: &[u16], p: usize, m: usize, numbers: &mut [u32])
     requires { (p + automaton_size ≤ length xs.now) × (length numbers.old ≡ places) × (m < automaton_limit) }
     ensures { HeadPut (automaton_cut (automaton_at xs.now p)) m numbers.old numbers.new }
 {
-    numbers[HEADS + m] = head(xs[p], xs[p + 1], xs[p + 2]);
-    numbers[RANGES + m] = range(xs[p + 3], xs[p + 4]);
-    numbers[BEFORE + m] = low(xs[p + 5]);
+    numbers[HEADS + m] = u32::from(xs[p] % 256)
+        + 256 * u32::from(xs[p + 1] % 256)
+        + 65536 * u32::from(xs[p + 2]);
+    numbers[RANGES + m] = u32::from(xs[p + 3]) + 65536 * u32::from(xs[p + 4]);
+    numbers[BEFORE + m] = u32::from(xs[p + 5] % 256);
 }
 
 fn lend_used(xs: &[u16], numbers: &mut [u32]) -> bool
     requires { (length xs.now ≡ table_size) × (length numbers.old ≡ places) }
     ensures { (result ≡ used_fits (used_at xs.now used_place)) × UsedPut (cut_in xs.now).used numbers.old numbers.new }
 {
-    numbers[USED] = low(xs[USED_PLACE]);
-    numbers[USED + 1] = low(xs[USED_PLACE + 1]);
-    numbers[USED + 2] = wide(xs[USED_PLACE + 2]);
+    numbers[USED] = u32::from(xs[USED_PLACE] % 256);
+    numbers[USED + 1] = u32::from(xs[USED_PLACE + 1] % 256);
+    numbers[USED + 2] = u32::from(xs[USED_PLACE + 2]);
     (xs[USED_PLACE] < 256) & (xs[USED_PLACE + 1] < 256)
 }
 
@@ -197,10 +176,10 @@ fn edge_number(bytes: &[u8], p: usize) -> u32
     requires { p + edge_size ≤ length bytes.now }
     ensures { edge_in result ≡ edge_at bytes.now p }
 {
-    of_byte(bytes[p])
-        + 256 * of_byte(bytes[p + 1])
-        + 65536 * of_byte(bytes[p + 2])
-        + 16777216 * of_byte(bytes[p + 3])
+    u32::from(bytes[p])
+        + 256 * u32::from(bytes[p + 1])
+        + 65536 * u32::from(bytes[p + 2])
+        + 16777216 * u32::from(bytes[p + 3])
 }
 
 // The node line at place p as one number.
@@ -208,7 +187,7 @@ fn line_number(xs: &[u16], p: usize) -> u32
     requires { p + line_size ≤ length xs.now }
     ensures { line_in result ≡ line_cut (line_at xs.now p) }
 {
-    low(xs[p]) + 256 * low(xs[p + 1]) + 65536 * low(xs[p + 2])
+    u32::from(xs[p] % 256) + 256 * u32::from(xs[p + 1] % 256) + 65536 * u32::from(xs[p + 2] % 256)
 }
 
 // Whether the numbers of one byte hold bytes: of the node line, of the automaton at place p.
@@ -224,36 +203,4 @@ fn automaton_fits(xs: &[u16], p: usize) -> bool
     ensures { result ≡ automaton_fits (automaton_at xs.now p) }
 {
     (xs[p] < 256) & (xs[p + 1] < 256) & (xs[p + 5] < 256)
-}
-
-// An automaton's states, start and accepting states as one number; its edges as one number.
-fn head(states: u16, start: u16, accepting: u16) -> u32
-    ensures { (result ≡ states % 256 + 256 * (start % 256) + 65536 * accepting) × (accepting < 65536) }
-{
-    low(states) + 256 * low(start) + 65536 * wide(accepting)
-}
-
-fn range(first: u16, count: u16) -> u32
-    ensures { (result ≡ first + 65536 * count) × (first < 65536) × (count < 65536) }
-{
-    wide(first) + 65536 * wide(count)
-}
-
-fn of_byte(x: u8) -> u32
-    ensures { (result ≡ x) × (result < 256) }
-{
-    x as u32
-}
-
-// The low byte of a number, and all of it.
-fn low(x: u16) -> u32
-    ensures { (result ≡ x % 256) × (result < 256) }
-{
-    (x % 256) as u32
-}
-
-fn wide(x: u16) -> u32
-    ensures { (result ≡ x) × (result < 65536) }
-{
-    x as u32
 }

@@ -1,7 +1,7 @@
 // The numbers of a table, written to a slice of numbers.
-ghost use Rattle.std.specs.Prelude.{◌≡◌, ◌+◌, ◌≤◌, length};
+ghost use Rattle.std.specs.Prelude.{◌≡◌, refl, ℕ, List, ◌+◌, ◌*◌, ◌≤◌, length};
 ghost use Rattle.std.proofs.lemmas.List.Edits.{sets};
-ghost use Rattle.crossing.specs.Numbers.{line_size, automaton_size, edge_size, automata_place, edges_place, used_place, table_size, line_numbers, automaton_numbers, edge_numbers, used_numbers, numbers_of, table_numbers};
+ghost use Rattle.crossing.specs.Numbers.{line_size, automaton_size, edge_size, used_place, table_size, line_numbers, automaton_numbers, edge_numbers, used_numbers, numbers_of, table_numbers};
 
 use aldlf::{Automaton, Edge, NodeLine, Table, Used};
 
@@ -20,54 +20,92 @@ pub const USED_PLACE: usize = EDGES_PLACE + EDGE * aldlf::EDGES;
 
 pub const TABLE: usize = USED_PLACE + 3;
 
+// A piece of a table, which takes as many numbers as any other of its kind.
+trait Piece: Copy {
+    const SIZE: usize;
+
+    ghost SIZE: { ℕ };
+
+    ghost numbers: { Self → List ℕ };
+
+    // The piece's numbers, from place p on.
+    fn put(self, p: usize, out: &mut [u16])
+        requires { p + SIZE ≤ length out.old }
+        ensures { out.new ≡ sets out.old p (numbers self) };
+
+    ghost sized: { (x : Self) → length (numbers x) ≡ SIZE };
+}
+
+impl Piece for NodeLine {
+    const SIZE: usize = LINE;
+
+    ghost SIZE = { line_size };
+
+    ghost numbers = { line_numbers };
+
+    ghost sized = { λ x. refl };
+
+    fn put(self, p: usize, out: &mut [u16]) {
+        out[p] = self.kind as u16;
+        out[p + 1] = self.a as u16;
+        out[p + 2] = self.b as u16;
+    }
+}
+
+impl Piece for Automaton {
+    const SIZE: usize = AUTOMATON;
+
+    ghost SIZE = { automaton_size };
+
+    ghost numbers = { automaton_numbers };
+
+    ghost sized = { λ x. refl };
+
+    fn put(self, p: usize, out: &mut [u16]) {
+        out[p] = self.states as u16;
+        out[p + 1] = self.start.0 as u16;
+        out[p + 2] = self.accepting;
+        out[p + 3] = self.first;
+        out[p + 4] = self.count;
+        out[p + 5] = self.before as u16;
+    }
+}
+
+impl Piece for Edge {
+    const SIZE: usize = EDGE;
+
+    ghost SIZE = { edge_size };
+
+    ghost numbers = { edge_numbers };
+
+    ghost sized = { λ x. refl };
+
+    fn put(self, p: usize, out: &mut [u16]) {
+        out[p] = self.from.0 as u16;
+        out[p + 1] = self.dir as u16;
+        out[p + 2] = self.test.0 as u16;
+        out[p + 3] = self.to.0 as u16;
+    }
+}
+
 // The numbers of a table, which take the whole slice.
 pub fn put_table(t: Table, out: &mut [u16])
     requires { length out.old ≡ table_size }
     ensures { out.new ≡ table_numbers t }
 {
-    let nodes = t.nodes;
-    let automata = t.automata;
-    let edges = t.edges;
-    let used = t.used;
-    put_lines(nodes, out);
-    put_automata(automata, out);
-    put_edges(edges, out);
-    put_used(used, out);
+    put_all(&t.nodes, 0, out);
+    put_all(&t.automata, AUTOMATA_PLACE, out);
+    put_all(&t.edges, EDGES_PLACE, out);
+    put_used(t.used, out);
 }
 
-fn put_lines(nodes: [NodeLine; aldlf::NODES], out: &mut [u16])
-    requires { length out.old ≡ table_size }
-    ensures { out.new ≡ sets out.old 0 (numbers_of line_numbers nodes) }
+// The numbers of pieces of one kind, one after the other, from a place on.
+fn put_all<T: Piece>(pieces: &[T], place: usize, out: &mut [u16])
+    requires { place + T.SIZE * length pieces.now ≤ length out.old }
+    ensures { out.new ≡ sets out.old place (numbers_of T.numbers pieces.now) }
 {
-    let mut k: usize = 0;
-    while k < aldlf::NODES {
-        let x = nodes[k];
-        put_line(x, LINE * k, out);
-        k += 1;
-    }
-}
-
-fn put_automata(automata: [Automaton; aldlf::AUTOMATA], out: &mut [u16])
-    requires { length out.old ≡ table_size }
-    ensures { out.new ≡ sets out.old automata_place (numbers_of automaton_numbers automata) }
-{
-    let mut k: usize = 0;
-    while k < aldlf::AUTOMATA {
-        let x = automata[k];
-        put_automaton(x, AUTOMATA_PLACE + AUTOMATON * k, out);
-        k += 1;
-    }
-}
-
-fn put_edges(edges: [Edge; aldlf::EDGES], out: &mut [u16])
-    requires { length out.old ≡ table_size }
-    ensures { out.new ≡ sets out.old edges_place (numbers_of edge_numbers edges) }
-{
-    let mut k: usize = 0;
-    while k < aldlf::EDGES {
-        let x = edges[k];
-        put_edge(x, EDGES_PLACE + EDGE * k, out);
-        k += 1;
+    for (k, piece) in pieces.iter().enumerate() {
+        piece.put(place + T::SIZE * k, out);
     }
 }
 
@@ -78,35 +116,4 @@ fn put_used(u: Used, out: &mut [u16])
     out[USED_PLACE] = u.nodes as u16;
     out[USED_PLACE + 1] = u.automata as u16;
     out[USED_PLACE + 2] = u.edges;
-}
-
-fn put_line(x: NodeLine, p: usize, out: &mut [u16])
-    requires { p + line_size ≤ length out.old }
-    ensures { out.new ≡ sets out.old p (line_numbers x) }
-{
-    out[p] = x.kind as u16;
-    out[p + 1] = x.a as u16;
-    out[p + 2] = x.b as u16;
-}
-
-fn put_automaton(x: Automaton, p: usize, out: &mut [u16])
-    requires { p + automaton_size ≤ length out.old }
-    ensures { out.new ≡ sets out.old p (automaton_numbers x) }
-{
-    out[p] = x.states as u16;
-    out[p + 1] = x.start.0 as u16;
-    out[p + 2] = x.accepting;
-    out[p + 3] = x.first;
-    out[p + 4] = x.count;
-    out[p + 5] = x.before as u16;
-}
-
-fn put_edge(e: Edge, p: usize, out: &mut [u16])
-    requires { p + edge_size ≤ length out.old }
-    ensures { out.new ≡ sets out.old p (edge_numbers e) }
-{
-    out[p] = e.from.0 as u16;
-    out[p + 1] = e.dir as u16;
-    out[p + 2] = e.test.0 as u16;
-    out[p + 3] = e.to.0 as u16;
 }

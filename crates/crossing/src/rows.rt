@@ -11,11 +11,7 @@ pub fn row_of(xs: &[u16]) -> Row
     ensures { result ≡ row_of xs.now }
 {
     let mut bits = [0u16; aldlf::NODES];
-    let mut k: usize = 0;
-    while k < aldlf::NODES {
-        bits[k] = xs[k];
-        k += 1;
-    }
+    bits.copy_from_slice(xs);
     Row { bits }
 }
 
@@ -24,10 +20,5 @@ pub fn put_row(row: Row, out: &mut [u16])
     requires { length out.old ≡ node_limit }
     ensures { out.new ≡ row.bits }
 {
-    let bits = row.bits;
-    let mut k: usize = 0;
-    while k < aldlf::NODES {
-        out[k] = bits[k];
-        k += 1;
-    }
+    out.copy_from_slice(&row.bits);
 }

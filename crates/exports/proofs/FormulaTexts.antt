@@ -9,8 +9,7 @@ use lib.ListN.{length}
 use borrow.Author.Tests.{eq-eqb, ne_eqb}
 use Rattle.sheet.proofs.Bools.{same}
 use Rattle.sheet.proofs.Question31.{well_formed_iff}
-use Rattle.compile.specs.declared.FormulaAnswer.{FormulaAnswer}
-use Rattle.compile.specs.Answers.{formula_answer}
+use Rattle.compile.specs.Answers.{FormulaAnswer, formula_answer}
 use Rattle.compile.proofs.Request.{formula_right}
 use Rattle.crossing.specs.Numbers.{table_size, table_numbers, table_of}
 use Rattle.crossing.proofs.GivenTables.{given_crosses}

@@ -1,4 +1,5 @@
 -- The calls that judge: each answer is the definition's, and the count held is at most the log's entries.
+use Rattle.std.specs.Prelude.{Result, Ok, Err}
 use Prim.Native.Nat.{ℕ, ◌<◌}
 use mathlib.Core.Path.{◌≡◌, refl, ap, sym, ◌∙◌}
 use mathlib.Core.Bool.{Bool, true, false, cond}
@@ -10,42 +11,41 @@ use borrow.Author.Tests.{eq-eqb, ne_eqb, leb-true}
 use Rattle.aldlf.specs.Constants.{node_limit, entry_limit}
 use Rattle.aldlf.specs.Sheet.{Sheet, sheet_of}
 use Rattle.aldlf.specs.Stands.{rule_sheet}
-use Rattle.aldlf.specs.Outcomes.{Whole, whole_outcome, part_outcome, plain_row, no_row}
+use Rattle.aldlf.specs.Outcomes.{Whole, Part, whole_outcome, part_outcome, plain_row, no_row}
+use Rattle.aldlf.specs.Refusals.{refusal_number}
+use Rattle.aldlf.specs.declared.Refusal.{Refusal}
 use Rattle.aldlf.specs.declared.Table.{Table}
 use Rattle.aldlf.specs.declared.Row.{Row}
 use Rattle.aldlf.specs.declared.Way.{Way}
 use Rattle.aldlf.proofs.Bools.{and_right}
 use Rattle.aldlf.proofs.Outcomes.{held_le, whole_yes, whole_held}
 use Rattle.sheet.specs.Given.{well_formed}
-use Rattle.judge.specs.declared.Judged.{Judged}
-use Rattle.judge.specs.declared.Judged.TheVariants.{Held, Refused}
-use Rattle.judge.specs.declared.PartAnswer.{PartAnswer}
-use Rattle.judge.specs.Answers.{whole_of, part_of, plain_answer_of}
+use Rattle.judge.specs.Answers.{PartAnswer, whole_of, plain_answer_of}
 use Rattle.crossing.specs.Numbers.{table_of, row_of}
 use Rattle.exports.specs.Answers.{answer_code, accepted, refusal, Outcome, outcome}
 use Rattle.exports.specs.Judging.{judged, judge_outcome, plain_into, plain_outcome, is_way, way_of, part_ends, part_judged, judge_part_outcome}
 use Rattle.exports.proofs.Sheets.{short_is, long_is}
 
 -- an accepted log is within the limit, and the rule holds at no more entries than there are
-pub held_count : (given : Bool) (S : Sheet) (log buffer after : List ℕ) (r : Judged) (n : ℕ) → whole_of r after ≡ whole_outcome given S log buffer → r ≡ Held n → n < 65536
+pub held_count : (given : Bool) (S : Sheet) (log buffer after : List ℕ) (r : Result ℕ Refusal) (n : ℕ) → whole_of r after ≡ whole_outcome given S log buffer → r ≡ Ok n → n < 65536
 held_count given S log buffer after r n e h =
-    let o : whole_of (Held n) after ≡ whole_outcome given S log buffer = ap (λ (x : Judged). whole_of x after) (sym h) ∙ e in
+    let o : whole_of (Ok n) after ≡ whole_outcome given S log buffer = ap (λ (x : Result ℕ Refusal). whole_of x after) (sym h) ∙ e in
     let z : (whole_outcome given S log buffer).number ≡ 0 = sym (ap (λ (x : Whole). x.number) o) in
     let few = leb-true (length log) entry_limit (and_right (leb 1 (length log)) (leb (length log) entry_limit) (whole_yes given S log buffer z).1) in
     omega (arith, ap (λ (x : Whole). x.held) o, whole_held given S log buffer z, held_le S log, few)
 
 -- judging a whole log
-module _ (table log verdicts after : List ℕ) (t : Table) (r : Judged) (a : ℕ) (is : t ≡ table_of table)
+module _ (table log verdicts after : List ℕ) (t : Table) (r : Result ℕ Refusal) (a : ℕ) (is : t ≡ table_of table)
     (ends : whole_of r after ≡ whole_outcome (well_formed t) (sheet_of t) log verdicts) where
   judge_is : judged (whole_of r after) ≡ judge_outcome table log verdicts
   unfolding judge_outcome
   judge_is = ap judged ends ∙ ap (λ (u : Table). judged (whole_outcome (well_formed u) (sheet_of u) log verdicts)) is
 
-  pub judge_held : (n : ℕ) → r ≡ Held n → a ≡ accepted n → outcome a after ≡ judge_outcome table log verdicts
-  judge_held n g e = ap (λ (x : ℕ). outcome x after) e ∙ ap (λ (x : Judged). judged (whole_of x after)) (sym g) ∙ judge_is
+  pub judge_held : (n : ℕ) → r ≡ Ok n → a ≡ accepted n → outcome a after ≡ judge_outcome table log verdicts
+  judge_held n g e = ap (λ (x : ℕ). outcome x after) e ∙ ap (λ (x : Result ℕ Refusal). judged (whole_of x after)) (sym g) ∙ judge_is
 
-  pub judge_refused : (q : ℕ) → r ≡ Refused q → a ≡ refusal q → outcome a after ≡ judge_outcome table log verdicts
-  judge_refused q g e = ap (λ (x : ℕ). outcome x after) e ∙ ap (λ (x : Judged). judged (whole_of x after)) (sym g) ∙ judge_is
+  pub judge_refused : (q : Refusal) → r ≡ Err q → a ≡ refusal (refusal_number q) → outcome a after ≡ judge_outcome table log verdicts
+  judge_refused q g e = ap (λ (x : ℕ). outcome x after) e ∙ ap (λ (x : Result ℕ Refusal). judged (whole_of x after)) (sym g) ∙ judge_is
 
 -- the plain row: the answer's row takes the lent row's place where it is accepted
 abbrev plain_ends : List ℕ → PartAnswer → Outcome
@@ -86,6 +86,9 @@ module _ (table row : List ℕ) where
         ∙ sym plain_is
 
 -- judging a part
+abbrev answered : PartAnswer → List ℕ → Part
+answered p buffer = record { number = p.number; row = p.row; buffer = buffer }
+
 module _ (table : List ℕ) (way : ℕ) (row words verdicts : List ℕ) where
   pub part_short : (a : ℕ) → (length row ≡ node_limit → ⊥) → a ≡ refusal 35 → part_ends a row verdicts ≡ judge_part_outcome table way row words verdicts
   unfolding judge_part_outcome
@@ -97,8 +100,8 @@ module _ (table : List ℕ) (way : ℕ) (row words verdicts : List ℕ) where
 
   module _ (t : Table) (w : Way) (given : Row) (p : PartAnswer) (after : List ℕ) (a : ℕ) (h : length row ≡ node_limit) (known : is_way way ≡ true)
       (is : t ≡ table_of table) (goes : w ≡ way_of way) (held : given ≡ row_of row)
-      (ends : part_of p after ≡ part_outcome (well_formed t) w (sheet_of t) given words verdicts) (e : a ≡ answer_code p.number 0 0 0) where
-    part_is : judge_part_outcome table way row words verdicts ≡ part_judged row (part_of p after)
+      (ends : answered p after ≡ part_outcome (well_formed t) w (sheet_of t) given words verdicts) (e : a ≡ answer_code p.number 0 0 0) where
+    part_is : judge_part_outcome table way row words verdicts ≡ part_judged row (answered p after)
     unfolding judge_part_outcome
     part_is = rw (eq-eqb (length row) node_limit h, known, ← is, ← goes, ← held, ← ends)
 

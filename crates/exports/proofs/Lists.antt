@@ -6,8 +6,7 @@ use native.Mathlib.Omega.{arith}
 use Rattle.aldlf.specs.Sheet.{sheet_of}
 use Rattle.aldlf.specs.declared.Table.{Table}
 use Rattle.sheet.specs.Given.{well_formed}
-use Rattle.batch.specs.declared.BatchAnswer.{BatchAnswer}
-use Rattle.batch.specs.Batch.{BatchOutcome, batch_ends, batch_outcome}
+use Rattle.batch.specs.Batch.{BatchAnswer, BatchOutcome, batch_ends, batch_outcome}
 use Rattle.batch.proofs.Refusals.{log_small}
 use Rattle.crossing.specs.Numbers.{table_of}
 use Rattle.exports.specs.Lists.{list_code, list_ends, listed, judge_logs_outcome}

@@ -4,13 +4,10 @@ use mathlib.Core.Path.{◌≡◌, refl, ap, sym, subst, ◌∙◌}
 use mathlib.Core.List.{List}
 use native.Mathlib.Omega.{arith}
 use lib.ListN.{length}
-use Rattle.joblog.specs.declared.LogAnswer.{LogAnswer}
-use Rattle.joblog.specs.declared.LogAnswer.TheVariants.{Read, Refused}
-use Rattle.joblog.specs.declared.CountedAnswer.{CountedAnswer}
-use Rattle.joblog.specs.declared.CountedAnswer.TheVariants as counted
 use Rattle.joblog.specs.declared.counters.Counter.{Counter}
-use Rattle.joblog.specs.Log.{LogRead, answer_of, outcome_of, read_log, read_outcome}
-use Rattle.joblog.specs.Counted.{read_counted, CountedOutcome, counted_answer_of, counted_outcome}
+use Rattle.joblog.specs.Log.{LogAnswer, Read, Refused, LogRead, answer_of, outcome_of, read_log, read_outcome}
+use Rattle.joblog.specs.Counted as counted
+use Rattle.joblog.specs.Counted.{CountedAnswer, read_counted, CountedOutcome, counted_answer_of, counted_outcome}
 use Rattle.joblog.proofs.Answers.{Sound, sound_log, sound_counted}
 use Rattle.joblog.proofs.Told.{told_read, told_refused}
 use Rattle.exports.specs.Answers.{answer_code, Outcome, outcome, logged, log_outcome, counted_log_outcome}

@@ -12,8 +12,7 @@ use Rattle.aldlf.proofs.Bools.{lt-or-le}
 use Rattle.sheet.specs.Given.{well_formed}
 use Rattle.appending.specs.Placed.{Printed, unprinted, placed}
 use Rattle.appending.proofs.Placed.{placed-count}
-use Rattle.printing.specs.declared.RuleAnswer.{RuleAnswer}
-use Rattle.printing.specs.Print.{rule_text, printed_of, print_outcome}
+use Rattle.printing.specs.Print.{rule_text, print_outcome}
 use Rattle.crossing.specs.Numbers.{table_of}
 use Rattle.exports.specs.Answers.{outcome}
 use Rattle.exports.specs.RuleTexts.{longest, length_code, rule_in, rule_printed}
@@ -27,7 +26,7 @@ printed_few given S lent = go given
     go true = (placed-count 55 (rule_text S) lent).0
     go false = omega arith
 
-module _ (table text after : List ℕ) (room : ℕ) (r : RuleAnswer) (is : room ≡ min longest (length text)) where
+module _ (table text after : List ℕ) (room : ℕ) (q n : ℕ) (is : room ≡ min longest (length text)) where
   lent_is : take room text ≡ take longest text
   lent_is = ⊎_elim
       (λ (h : length text < longest). take_all room text (omega arith) ∙ sym (take_all longest text (omega arith)))
@@ -40,11 +39,11 @@ module _ (table text after : List ℕ) (room : ℕ) (r : RuleAnswer) (is : room 
       (λ h. let e : room ≡ longest = omega arith in ap (λ (n : ℕ). drop n text) e)
       (lt-or-le (length text) longest)
 
-  module _ (ends : printed_of r after ≡ print_outcome (well_formed (table_of table)) (sheet_of (table_of table)) (take room text)) where
-    pub rule_length : r.bytes ≤ longest
+  module _ (ends : ◌≡◌ {A = Printed} (record { number = q; count = n; buffer = after }) (print_outcome (well_formed (table_of table)) (sheet_of (table_of table)) (take room text))) where
+    pub rule_length : n ≤ longest
     rule_length = omega (arith, ap (λ (p : Printed). p.count) ends, printed_few (well_formed (table_of table)) (sheet_of (table_of table)) (take room text), length-take room text)
 
-    pub rule_is : (a : ℕ) → a ≡ length_code r.number r.bytes → outcome a (after ++ drop room text) ≡ rule_printed table text
+    pub rule_is : (a : ℕ) → a ≡ length_code q n → outcome a (after ++ drop room text) ≡ rule_printed table text
     unfolding rule_printed
     rule_is a e =
         ap (λ (x : ℕ). outcome x (after ++ drop room text)) e

@@ -6,9 +6,9 @@ use mathlib.Core.List.{List}
 use lib.ListN.{length}
 use borrow.Author.Tests.{eq-eqb, ne_eqb}
 use Rattle.aldlf.specs.declared.Table.{Table}
-use Rattle.sheet.specs.declared.SheetAnswer.{SheetAnswer}
+use Rattle.sheet.specs.Answers.{SheetAnswer}
 use Rattle.sheet.specs.Questions.{read_sheet}
-use Rattle.profile.specs.declared.ProfileAnswer.{ProfileAnswer}
+use Rattle.profile.specs.Profile.{ProfileAnswer}
 use Rattle.profile.specs.Profile.{profile_outcome}
 use Rattle.crossing.specs.Numbers.{table_size, table_numbers, table_of}
 use Rattle.exports.specs.Answers.{answer_code, refusal, Outcome, outcome, of_length, table_into, sheet_outcome, profile_made}

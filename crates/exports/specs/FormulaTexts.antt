@@ -1,7 +1,6 @@
 -- What the call that reads a formula answers and leaves in the lent table.
 use Rattle.std.specs.Prelude.{ℕ, cond, List, eqb}
-use Rattle.compile.specs.declared.FormulaAnswer.{FormulaAnswer}
-use Rattle.compile.specs.Answers.{formula_answer}
+use Rattle.compile.specs.Answers.{FormulaAnswer, formula_answer}
 use Rattle.crossing.specs.Numbers.{table_size, table_numbers}
 use Rattle.exports.specs.Answers.{answer_code, accepted, Outcome, outcome, of_length}
 

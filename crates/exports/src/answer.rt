@@ -36,5 +36,5 @@ pub(crate) fn length_code(number: u8, length: usize) -> u64
 pub(crate) fn one(yes: bool) -> usize
     ensures { (result ≡ one yes) × (result < 2) }
 {
-    if yes { 1 } else { 0 }
+    usize::from(yes)
 }

@@ -15,11 +15,11 @@ pub extern "C" fn rozsvelen_read_formula(text: &[u8], table: &mut [u16]) -> u64
     if table.len() != TABLE {
         return code(LENGTH, 0, 0, 0);
     }
-    let f = compile::read_formula(text);
-    if f.number != 0 {
-        return code(f.number, 0, 0, f.place);
+    match compile::read_formula(text) {
+        Ok(t) => {
+            put_table(t, table);
+            code(0, 0, 0, 0)
+        }
+        Err(r) => code(r.number(), 0, 0, r.place()),
     }
-    let t = f.table;
-    put_table(t, table);
-    code(0, 0, 0, 0)
 }

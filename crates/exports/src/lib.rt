@@ -18,20 +18,17 @@ use answer::{code, list_code, one};
 use crossing::lending::lend_table;
 use crossing::pack::{TABLE, put_table};
 use crossing::rows::{put_row, row_of};
-use joblog::counters::{Counter, Found, entry_bearing, steps_between};
-use joblog::{CountedAnswer, LogAnswer};
-use judge::Judged;
+use joblog::counters::{Counter, entry_bearing, steps_between};
 use judge::lent::{judge_lent, part_lent, plain_row_lent};
 use packing::places::PLACES;
 use profile::lent::{is_in_profile_lent, to_profile_lent};
 use stands::lent::rule_looks_lent;
-use walk::WalkAnswer;
 use walk::lent::walk_lent;
 
-// The boundary's own question: a lent table or row has its fixed length.
+// The boundary's own question, a number as all are for C: a lent table or row has its fixed length.
 const LENGTH: u8 = 35;
 
-// The boundary's own question: the number of a way is 1 or 2.
+// The other one: the number of a way is 1 or 2.
 const WAY: u8 = 43;
 
 // Reads a sheet's text into a table. Besides, a refusal gives its field; it alters nothing.
@@ -42,13 +39,13 @@ pub extern "C" fn rozsvelen_read_sheet(text: &[u8], table: &mut [u16]) -> u64
     if table.len() != TABLE {
         return code(LENGTH, 0, 0, 0);
     }
-    let s = sheet::read_sheet(text);
-    if s.number != 0 {
-        return code(s.number, s.line as usize, 0, s.field as u16);
+    match sheet::read_sheet(text) {
+        Ok(t) => {
+            put_table(t, table);
+            code(0, 0, 0, 0)
+        }
+        Err(r) => code(r.question.number(), r.line as usize, 0, r.field as u16),
     }
-    let t = s.table;
-    put_table(t, table);
-    code(s.number, s.line as usize, 0, s.field as u16)
 }
 
 // Puts the table in the plain profile that a table gives into another. A refusal alters nothing.
@@ -61,13 +58,13 @@ pub extern "C" fn rozsvelen_profile(table: &[u16], out: &mut [u16]) -> u64
     }
     let mut numbers = [0u32; PLACES];
     lend_table(table, &mut numbers);
-    let made = to_profile_lent(&numbers);
-    if made.number != 0 {
-        return code(made.number, 0, 0, 0);
+    match to_profile_lent(&numbers) {
+        Ok(made) => {
+            put_table(made, out);
+            code(0, 0, 0, 0)
+        }
+        Err(why) => code(why.number(), 0, 0, 0),
     }
-    let t = made.table;
-    put_table(t, out);
-    code(made.number, 0, 0, 0)
 }
 
 // Whether a table is in the plain profile: a yes counts 1.
@@ -77,8 +74,10 @@ pub extern "C" fn rozsvelen_in_profile(table: &[u16]) -> u64
 {
     let mut numbers = [0u32; PLACES];
     lend_table(table, &mut numbers);
-    let asked = is_in_profile_lent(&numbers);
-    code(asked.number, 0, one(asked.yes), 0)
+    match is_in_profile_lent(&numbers) {
+        Ok(yes) => code(0, 0, one(yes), 0),
+        Err(why) => code(why.number(), 0, 0, 0),
+    }
 }
 
 // Which ways a table's rule looks: ahead counts 1 and back 2, as the ways are numbered.
@@ -88,8 +87,10 @@ pub extern "C" fn rozsvelen_rule_looks(table: &[u16]) -> u64
 {
     let mut numbers = [0u32; PLACES];
     lend_table(table, &mut numbers);
-    let looks = rule_looks_lent(&numbers);
-    code(looks.number, 0, one(looks.ahead) + 2 * one(looks.back), 0)
+    match rule_looks_lent(&numbers) {
+        Ok(looks) => code(0, 0, one(looks.ahead) + 2 * one(looks.back), 0),
+        Err(why) => code(why.number(), 0, 0, 0),
+    }
 }
 
 // Reads a log's text into words and counts its entries. A refusal alters nothing.
@@ -97,10 +98,9 @@ pub extern "C" fn rozsvelen_rule_looks(table: &[u16]) -> u64
 pub extern "C" fn rozsvelen_read_log(text: &[u8], words: &mut [u32]) -> u64
     ensures { outcome result words.new ≡ log_outcome text.now words.old }
 {
-    let r = joblog::read_log(text, words);
-    match r {
-        LogAnswer::Read(n) => code(0, 0, n, 0),
-        LogAnswer::Refused(q, k) => code(q, k, 0, 0),
+    match joblog::read_log(text, words) {
+        Ok(entries) => code(0, 0, entries, 0),
+        Err(refusal) => code(refusal.question.number(), refusal.line, 0, 0),
     }
 }
 
@@ -110,10 +110,9 @@ pub extern "C" fn rozsvelen_read_log(text: &[u8], words: &mut [u32]) -> u64
 pub extern "C" fn rozsvelen_read_counted(text: &[u8], words: &mut [u32]) -> u64
     ensures { outcome result words.new ≡ counted_log_outcome text.now words.old }
 {
-    let r = joblog::read_counted(text, words);
-    match r {
-        CountedAnswer::Read(n, c) => code(0, 0, n, c.0),
-        CountedAnswer::Refused(q, k) => code(q, k, 0, 0),
+    match joblog::read_counted(text, words) {
+        Ok(log) => code(0, 0, log.entries, log.first.0),
+        Err(refused) => code(refused.question.number(), refused.line, 0, 0),
     }
 }
 
@@ -123,7 +122,7 @@ pub extern "C" fn rozsvelen_steps_between(earlier: u16, later: u16) -> u64
     ensures { result ≡ accepted (steps_between earlier later) }
 {
     let n = steps_between(Counter(earlier), Counter(later));
-    code(0, 0, n as usize, 0)
+    code(0, 0, usize::from(n), 0)
 }
 
 // The entry that bears a counter, of a log of so many entries whose first bears `first`, where a count stands.
@@ -131,10 +130,9 @@ pub extern "C" fn rozsvelen_steps_between(earlier: u16, later: u16) -> u64
 pub extern "C" fn rozsvelen_entry_bearing(first: u16, entries: usize, counter: u16) -> u64
     ensures { result ≡ looked_up (entry_bearing first entries counter) }
 {
-    let f = entry_bearing(Counter(first), entries, Counter(counter));
-    match f {
-        Found::At(e) => code(0, 0, e.0 as usize, 0),
-        Found::Refused(q) => code(q, 0, 0, 0),
+    match entry_bearing(Counter(first), entries, Counter(counter)) {
+        Ok(entry) => code(0, 0, usize::from(entry.0), 0),
+        Err(missing) => code(missing.number(), 0, 0, 0),
     }
 }
 
@@ -145,10 +143,9 @@ pub extern "C" fn rozsvelen_judge(table: &[u16], log: &[u32], verdicts: &mut [u6
 {
     let mut numbers = [0u32; PLACES];
     lend_table(table, &mut numbers);
-    let r = judge_lent(&numbers, log, verdicts);
-    match r {
-        Judged::Held(n) => code(0, 0, n, 0),
-        Judged::Refused(q) => code(q, 0, 0, 0),
+    match judge_lent(&numbers, log, verdicts) {
+        Ok(held) => code(0, 0, held, 0),
+        Err(refusal) => code(refusal.number(), 0, 0, 0),
     }
 }
 
@@ -166,8 +163,10 @@ pub extern "C" fn rozsvelen_judge_logs(
 {
     let mut numbers = [0u32; PLACES];
     lend_table(table, &mut numbers);
-    let a = batch::logs_lent(&numbers, words, lengths, verdicts, held);
-    list_code(a.number, a.log)
+    match batch::logs_lent(&numbers, words, lengths, verdicts, held) {
+        Ok(()) => list_code(0, 0),
+        Err(why) => list_code(why.question.number(), why.log),
+    }
 }
 
 // Puts the plain row, from which a run starts, into a row. A refusal alters nothing.
@@ -180,13 +179,13 @@ pub extern "C" fn rozsvelen_plain_row(table: &[u16], row: &mut [u16]) -> u64
     }
     let mut numbers = [0u32; PLACES];
     lend_table(table, &mut numbers);
-    let start = plain_row_lent(&numbers);
-    if start.number != 0 {
-        return code(start.number, 0, 0, 0);
+    match plain_row_lent(&numbers) {
+        Ok(plain) => {
+            put_row(plain, row);
+            code(0, 0, 0, 0)
+        }
+        Err(why) => code(why.number(), 0, 0, 0),
     }
-    let plain = start.row;
-    put_row(plain, row);
-    code(start.number, 0, 0, 0)
 }
 
 // Judges a part, given the row of the entry just outside it, and puts the row for the next part in its place. A refusal alters
@@ -211,13 +210,13 @@ pub extern "C" fn rozsvelen_judge_part(
     lend_table(table, &mut numbers);
     let w = way_of(way);
     let given = row_of(row);
-    let p = part_lent(&numbers, w, given, words, verdicts);
-    if p.number != 0 {
-        return code(p.number, 0, 0, 0);
+    match part_lent(&numbers, w, given, words, verdicts) {
+        Ok(next) => {
+            put_row(next, row);
+            code(0, 0, 0, 0)
+        }
+        Err(why) => code(why.number(), 0, 0, 0),
     }
-    let next = p.row;
-    put_row(next, row);
-    code(p.number, 0, 0, 0)
 }
 
 // Whether a number names a way.
@@ -251,10 +250,9 @@ pub extern "C" fn rozsvelen_walk(
 {
     let mut numbers = [0u32; PLACES];
     lend_table(table, &mut numbers);
-    let r = walk_lent(&numbers, log, node_of(node), entry_of(entry), edges);
-    match r {
-        WalkAnswer::Shown(n) => code(0, 0, n, 0),
-        WalkAnswer::Refused(q) => code(q, 0, 0, 0),
+    match walk_lent(&numbers, log, node_of(node), entry_of(entry), edges) {
+        Ok(length) => code(0, 0, length, 0),
+        Err(why) => code(why.number(), 0, 0, 0),
     }
 }
 
@@ -262,20 +260,14 @@ pub extern "C" fn rozsvelen_walk(
 fn node_of(node: u32) -> Node
     ensures { result.0 ≡ min node 255 }
 {
-    if node > 255 {
-        return Node(255);
-    }
-    Node(node as u8)
+    Node(node.min(255) as u8)
 }
 
 // An entry's number, or the largest that an entry can have: no log has that one.
 fn entry_of(entry: u32) -> Entry
     ensures { result.0 ≡ min entry 65535 }
 {
-    if entry > 65535 {
-        return Entry(65535);
-    }
-    Entry(entry as u16)
+    Entry(entry.min(65535) as u16)
 }
 
 // The page of a sheet and a log in the first places of a slice, and the count of its bytes. A page that is longer than the slice
@@ -284,6 +276,8 @@ fn entry_of(entry: u32) -> Entry
 pub extern "C" fn rozsvelen_page(rules: &[u8], steps: &[u8], page: &mut [u8]) -> u64
     ensures { outcome result page.new ≡ page_printed rules.now steps.now page.old }
 {
-    let printed = report::page(rules, steps, page);
-    code(printed.number, 0, printed.bytes, 0)
+    match report::page(rules, steps, page) {
+        Ok(bytes) => code(0, 0, bytes, 0),
+        Err(why) => code(why.number(), 0, 0, 0),
+    }
 }

@@ -1,7 +1,7 @@
 // The calls for C and Rust on rules as text.
-ghost use Rattle.std.specs.Prelude.{◌≡◌, min};
+ghost use Rattle.std.specs.Prelude.{◌≡◌};
 ghost use Rattle.exports.specs.Answers.{outcome};
-ghost use Rattle.exports.specs.RuleTexts.{longest, rule_printed};
+ghost use Rattle.exports.specs.RuleTexts.{rule_printed};
 
 use super::answer::length_code;
 use crossing::lending::lend_table;
@@ -19,17 +19,9 @@ pub extern "C" fn rozsvelen_print_rule(table: &[u16], text: &mut [u8]) -> u64
 {
     let mut numbers = [0u32; PLACES];
     lend_table(table, &mut numbers);
-    let room = room_of(text.len());
-    let printed = print_rule_lent(&numbers, &mut text[..room]);
-    length_code(printed.number, printed.bytes)
-}
-
-// How many of so many places are lent.
-fn room_of(places: usize) -> usize
-    ensures { result ≡ min longest places }
-{
-    if places < LONGEST {
-        return places;
+    let room = LONGEST.min(text.len());
+    match print_rule_lent(&numbers, &mut text[..room]) {
+        Ok(bytes) => length_code(0, bytes),
+        Err(why) => length_code(why.number(), 0),
     }
-    LONGEST
 }

@@ -2,7 +2,7 @@
 // A room of the checker: its programs call it, users do not.
 #![tactic(auto)]
 
-ghost use Rattle.std.specs.Prelude.{◌≡◌, ◌↔◌, ◌-◌, ◌<◌, ◌≤◌, length, take, drop, IfOk};
+ghost use Rattle.std.specs.Prelude.{◌≡◌, ◌↔◌, ◌-◌, ◌<◌, ◌≤◌, length, take, drop, IfOk, Some, IfSome};
 ghost use Rattle.std.specs.IoError.{error_kind};
 ghost use Rattle.files.specs.Counts.{IsPrefixLen};
 ghost use Rattle.std.specs.Io.{ReadsAtMost};
@@ -14,57 +14,25 @@ use std::io;
 use std::io::{ErrorKind, Read};
 use std::rt::Files;
 
-// What came of a file: so many bytes, or a failure, which was said on standard error.
-#[derive(Clone, Copy)]
-enum Content {
-    Bytes(usize),
-    Failed,
-}
-
-// What came of two files: whether both were read, and how many bytes of each; none where one failed, which was said on standard error.
-#[derive(Clone, Copy)]
-pub struct Contents {
-    pub read: bool,
-    pub first: usize,
-    pub second: usize,
-}
-
-// The bytes of two files, each at the start of its buffer. Where the first one fails, the other is not opened.
+// How many bytes came of two files, each at the start of its buffer; none where one failed, which was said on standard error. Where the
+// first one fails, the other is not opened.
 pub fn read_two(
     rt: &(impl Files + Eprint),
     path: &[u8],
     buffer: &mut [u8],
     other: &[u8],
     more: &mut [u8],
-) -> Contents
-    ensures prefix_len { IsPrefixLen result.first buffer.new }
-    ensures prefix_len_2 { IsPrefixLen result.second more.new }
+) -> Option<(usize, usize)>
+    ensures prefix_len { IfSome result (λ n. IsPrefixLen n.0 buffer.new) }
+    ensures prefix_len_2 { IfSome result (λ n. IsPrefixLen n.1 more.new) }
 {
-    let one = read_file(rt, path, buffer);
-    let Content::Bytes(n) = one else {
-        return Contents {
-            read: false,
-            first: 0,
-            second: 0,
-        };
-    };
-    let two = read_file(rt, other, more);
-    let Content::Bytes(m) = two else {
-        return Contents {
-            read: false,
-            first: 0,
-            second: 0,
-        };
-    };
-    Contents {
-        read: true,
-        first: n,
-        second: m,
-    }
+    let first = read_file(rt, path, buffer)?;
+    let second = read_file(rt, other, more)?;
+    Some((first, second))
 }
 
-// The bytes of a file at the start of `buffer`, as many as fit. A missing file has none; one whose name is no text does not open.
-fn read_file(rt: &(impl Files + Eprint), path: &[u8], buffer: &mut [u8]) -> Content
+// How many bytes came of a file, at the start of `buffer`, as many as fit; none where it failed, which was said. A missing file has none; one whose name is no text does not open.
+fn read_file(rt: &(impl Files + Eprint), path: &[u8], buffer: &mut [u8]) -> Option<usize>
     ensures { Within (length buffer.new) result }
 {
     let Ok(path) = str::from_utf8(path) else {
@@ -73,7 +41,7 @@ fn read_file(rt: &(impl Files + Eprint), path: &[u8], buffer: &mut [u8]) -> Cont
             "a file's name is no text",
             &io::Error::from(ErrorKind::InvalidInput),
         );
-        return Content::Failed;
+        return None;
     };
     match File::open(rt, path) {
         Ok(mut file) => read_all(rt, &mut file, path, buffer),
@@ -82,28 +50,28 @@ fn read_file(rt: &(impl Files + Eprint), path: &[u8], buffer: &mut [u8]) -> Cont
 }
 
 // A file that does not open: only a missing one counts as empty.
-fn not_opened(rt: &impl Eprint, path: &str, error: &io::Error) -> Content
+fn not_opened(rt: &impl Eprint, path: &str, error: &io::Error) -> Option<usize>
     ensures within { Within 0 result }
-    ensures missing { result ≡ Content.Bytes 0 ↔ error_kind error.now ≡ ErrorKind.NotFound }
+    ensures missing { result ≡ Some 0 ↔ error_kind error.now ≡ ErrorKind.NotFound }
 {
     if error.kind() == ErrorKind::NotFound {
-        return Content::Bytes(0);
+        return Some(0);
     }
     fail(rt, path, error);
-    Content::Failed
+    None
 }
 
 // The bytes of an open file. A read that fails is said.
-fn read_all<F: Read>(rt: &impl Eprint, file: &mut F, path: &str, buffer: &mut [u8]) -> Content
+fn read_all<F: Read>(rt: &impl Eprint, file: &mut F, path: &str, buffer: &mut [u8]) -> Option<usize>
     ensures within { Within (length buffer.new) result }
     ensures bytes { OnBytes result (λ n. Consumes (F.remaining file.old) (F.remaining file.new) (take n buffer.new)) }
     ensures end { OnBytes result (λ n. n < length buffer.new → IsAtEnd (F.remaining file.new)) }
 {
     match read_full(file, buffer) {
-        Ok(n) => Content::Bytes(n),
+        Ok(n) => Some(n),
         Err(e) => {
             fail(rt, path, &e);
-            Content::Failed
+            None
         }
     }
 }
@@ -116,6 +84,7 @@ pub fn read_full<R: Read>(reader: &mut R, buffer: &mut [u8]) -> io::Result<usize
     ensures end { IfOk result (λ n. n < length buffer.new → IsAtEnd (R.remaining reader.new)) }
 {
     let mut done: usize = 0;
+    // A `while`: how much a turn reads is known only after it, and std's own loops grow a vector or fail at a short file.
     while done < buffer.len() {
         let n = read_some(reader, buffer, done)?;
         if n == 0 {

@@ -16,15 +16,13 @@ const RULE_ROOM: usize = formula::FORMULA + 2;
 // One byte more than a log may have, for the same reason.
 const STEPS_ROOM: usize = text::BYTES + 1;
 
+// As the main of `page`, with files, rooms and a page of its own: one function of both would take all of these, and be longer than this one.
 fn main(rt: HostRuntime) -> ExitCode {
     let mut rule = [0u8; RULE_ROOM];
     let mut steps = [0u8; STEPS_ROOM];
-    let texts = read_two(&rt, b"rule.txt", &mut rule, b"steps.txt", &mut steps);
-    let n = texts.first;
-    let m = texts.second;
-    if !texts.read {
+    let Some((n, m)) = read_two(&rt, b"rule.txt", &mut rule, b"steps.txt", &mut steps) else {
         return ExitCode::FAILURE;
-    }
+    };
     match print_page(&rt, &rule[..n], &steps[..m]) {
         Ok(()) => ExitCode::SUCCESS,
         Err(e) => {
@@ -34,12 +32,11 @@ fn main(rt: HostRuntime) -> ExitCode {
     }
 }
 
-// Prints the page. No page is longer than `out`.
+// Prints the page. No page is longer than `out`, so that none is refused.
 fn print_page(rt: &impl Print, rule: &[u8], steps: &[u8]) -> io::Result<()> {
     let mut out = [0u8; report::BYTES];
     let k = formula_bytes(rule);
-    let p = formula_page(&rule[..k], steps, &mut out);
-    let n = p.bytes;
+    let n = formula_page(&rule[..k], steps, &mut out).unwrap();
     rt.write_all(&out[..n])
 }
 
@@ -47,9 +44,9 @@ fn print_page(rt: &impl Print, rule: &[u8], steps: &[u8]) -> io::Result<()> {
 fn formula_bytes(rule: &[u8]) -> usize
     ensures { result ≡ formula_bytes rule.now }
 {
-    let n = rule.len();
     if text::ends_in_lf(rule) {
-        return n - 1;
+        rule.len() - 1
+    } else {
+        rule.len()
     }
-    n
 }

@@ -1,16 +1,18 @@
 -- 40,000 bytes take every page by a formula.
 use Prim.Native.Nat.{ℕ, ◌≤◌}
-use mathlib.Core.Path.{◌≡◌, ap, sym, ◌∙◌}
+use mathlib.Core.Path.{◌≡◌, refl, ap, sym, ◌∙◌}
 use mathlib.Core.Logic.{⊎_elim}
 use mathlib.Core.List.{List, ◌++◌}
 use native.Mathlib.Omega.{arith}
 use lib.ListN.{length, drop}
+use Rattle.std.specs.Prelude.{Result, Ok, Err, IsOk}
+use Rattle.aldlf.specs.Refusals.{refusal_number}
+use Rattle.aldlf.specs.declared.Refusal.{Refusal}
 use Rattle.appending.specs.Placed.{Printed, placed}
 use Rattle.appending.proofs.Placed.{placed_fits, placed-count}
 use Rattle.compile.specs.Answers.{formula_answer}
 use Rattle.compile.proofs.Request.{answer_small}
 use Rattle.report.specs.Page.{page_limit, printed_of}
-use Rattle.report.specs.declared.PageAnswer.{PageAnswer}
 use Rattle.lines.proofs.Lengths.{refusal_length}
 use Rattle.sheet.proofs.Bools.{same}
 use Rattle.report.proofs.Fits.{rule_page_fits}
@@ -19,11 +21,14 @@ use Rattle.formula_report.proofs.Pages.{formula_refused, formula_read}
 
 module _ (rule steps lent : List ℕ) where
   -- what a caller may take from an answer: the bytes are within the buffer
-  pub formula_page_bytes : (after : List ℕ) (r : PageAnswer) → printed_of r after ≡ formula_page_outcome rule steps lent → r.bytes ≤ length lent
+  pub formula_page_bytes : (after : List ℕ) (r : Result ℕ Refusal) → printed_of r after ≡ formula_page_outcome rule steps lent → (printed_of r after).count ≤ length lent
   unfolding formula_page_outcome
   formula_page_bytes after r e =
-      let c : r.bytes ≡ (placed 44 (formula_page_of rule steps) lent).count = ap (λ (p : Printed). p.count) e in
+      let c : (printed_of r after).count ≡ (placed 44 (formula_page_of rule steps) lent).count = ap (λ (p : Printed). p.count) e in
       omega (arith, (placed-count 44 (formula_page_of rule steps) lent).0)
+
+  pub formula_page_few : (after : List ℕ) (r : Result ℕ Refusal) (n : ℕ) → r ≡ Ok n → printed_of r after ≡ formula_page_outcome rule steps lent → n ≤ length lent
+  formula_page_few after r n s e = formula_page_bytes after (Ok n) (ap (λ (x : Result ℕ Refusal). printed_of x after) (sym s) ∙ e)
 
   -- every page is within the limit
   pub formula_page_fits : length (formula_page_of rule steps) ≤ page_limit
@@ -44,3 +49,10 @@ module _ (rule steps lent : List ℕ) where
     formula_page_never_refused e =
         let w : ◌≡◌ {A = ℕ} 0 44 = sym (ap (λ (p : Printed). p.number) formula_page_whole) ∙ e in
         absurd (omega arith)
+
+    -- what a caller may take from an answer: there is no refusal
+    pub formula_page_ok : (after : List ℕ) (r : Result ℕ Refusal) → printed_of r after ≡ formula_page_outcome rule steps lent → IsOk r
+    formula_page_ok after (Ok n) e = refl
+    formula_page_ok after (Err r) e =
+        let z : refusal_number r ≡ 0 = ap (λ (p : Printed). p.number) (e ∙ formula_page_whole) in
+        absurd (grind arith)

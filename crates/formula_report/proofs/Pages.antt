@@ -20,8 +20,7 @@ use Rattle.joblog.proofs.Answers.{Accepted, Sound, sound_log}
 use Rattle.lines.specs.Lines.{refusal_line, verdict_digit}
 use Rattle.formula.specs.Formula.{Formula, Sat}
 use Rattle.formula.specs.Grammar.{Writes}
-use Rattle.compile.specs.declared.FormulaAnswer.{FormulaAnswer}
-use Rattle.compile.specs.Answers.{formula_answer}
+use Rattle.compile.specs.Answers.{FormulaAnswer, formula_answer}
 use Rattle.compile.proofs.Request.{formula_right}
 use Rattle.report.specs.Page.{rule_of, rule_page, page_of}
 use Rattle.report.specs.Readable.{read_page}

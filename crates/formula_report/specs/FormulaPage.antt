@@ -1,8 +1,7 @@
 -- The printed page by a formula: what its text reads to, and then the page as a sheet's.
 use Rattle.std.specs.Prelude.{ℕ, cond, List, eqb}
 use Rattle.appending.specs.Placed.{Printed, placed}
-use Rattle.compile.specs.declared.FormulaAnswer.{FormulaAnswer}
-use Rattle.compile.specs.Answers.{formula_answer}
+use Rattle.compile.specs.Answers.{FormulaAnswer, formula_answer}
 use Rattle.lines.specs.Lines.{refusal_line}
 use Rattle.report.specs.Page.{rule_page}
 

@@ -1,8 +1,9 @@
 -- Only for the proofs of the code: the graph of configurations, each numbered entry times states plus state.
-use Rattle.std.specs.Prelude.{ℕ, ◌+◌, ◌-◌, ◌*◌, ◌/◌, ◌%◌, ◌≤◌, ◌<◌, ◌≡◌, ◌⊎◌, Bool, true, false, List, eqb, ltb, length}
+use Rattle.std.specs.Prelude.{ℕ, ◌+◌, ◌-◌, ◌*◌, ◌/◌, ◌%◌, ◌≤◌, ◌<◌, ◌≡◌, ◌⊎◌, Bool, true, false, List, eqb, ltb, length, Option, Some, None}
 use Rattle.aldlf.specs.Constants.{node_limit, state_limit, edge_limit, entry_limit}
 use Rattle.aldlf.specs.Sheet.{bit}
 use Rattle.aldlf.specs.declared.Edge.{Edge}
+use Rattle.aldlf.specs.declared.Entry.{Entry}
 use Rattle.aldlf.specs.declared.Automaton.{Automaton}
 use Rattle.graph.specs.Graph.{Graph, far, at}
 use Rattle.graph.specs.Arcs.{unpacked_of, IntoChain, OutChain}
@@ -11,6 +12,11 @@ use Rattle.graph.specs.Arcs.{unpacked_of, IntoChain, OutChain}
 abbrev pub pick_nat : Bool → ℕ → ℕ → ℕ
 pick_nat true a b = a
 pick_nat false a b = b
+
+-- The number of the entry that a call answers; far where it answers none.
+abbrev pub entry_or_far : Option Entry → ℕ
+entry_or_far (Some i) = i.0
+entry_or_far None = far
 
 -- The entry that an edge of direction d leaves to arrive at entry j of n, or far.
 abbrev pub entry_before : ℕ → ℕ → ℕ → ℕ

@@ -17,13 +17,14 @@ use packing::places::edge_at;
 pub const ARCS: usize = 288;
 
 // No edge: all ones, so that places are cleared at once. Of the 16 bits that are looked at it has a number beyond every edge's.
+// A number and no option: an edge and its two links are packed into one place of fixed memory.
 pub const NONE: u64 = 18446744073709551615;
 
 const INTO: usize = 256;
 
 const OUT: usize = 272;
 
-// The edge that is packed into a number.
+// The edge that is packed into a number. Not by `edge_in` of its low 32 bits: that is no plainer, and asks a fact on remainders of each field.
 pub fn unpacked(p: u64) -> Edge
     ensures { result ≡ unpacked_of p }
 {
@@ -93,11 +94,7 @@ pub fn chain_edges(numbers: &[u32], q: Automaton, arcs: &mut [u64])
     requires by_index { (e : ℕ) → q.first ≤ e → e < q.first + q.count → EdgeFits state_limit (lent_edge numbers.now e) }
     ensures { (t : Table) → Packed t numbers.now → Chained t.edges q.first (q.first + q.count) arcs.new }
 {
-    let first = q.first;
-    let mut e = q.first + q.count;
-    while first < e {
-        e -= 1;
-        let x = edge_at(numbers, e);
-        link(x, e, arcs);
+    for e in (q.first..q.first + q.count).rev() {
+        link(edge_at(numbers, e), e, arcs);
     }
 }

@@ -1,14 +1,11 @@
 // One edge between two configurations, backward for the search and forward for the walk. A configuration is numbered entry times states plus state.
-ghost use Rattle.std.specs.Prelude.{◌≡◌, ◌/◌, ◌%◌, ◌≤◌, ◌<◌, length};
+ghost use Rattle.std.specs.Prelude.{◌≡◌, ◌+◌, ◌*◌, ◌/◌, ◌%◌, ◌≤◌, ◌<◌, length, IfSome, unwrap_or};
 ghost use Rattle.aldlf.specs.Constants.{node_limit, state_limit, entry_limit};
 ghost use Rattle.reach.specs.Marks.{paired};
 ghost use Rattle.graph.specs.Graph.{far};
-ghost use Rattle.graph.specs.Configurations.{entry_before, prior_of, turned_of, arrival_of, reciprocal_of, EdgeFits};
+ghost use Rattle.graph.specs.Configurations.{entry_before, entry_or_far, prior_of, turned_of, arrival_of, reciprocal_of, EdgeFits};
 
 use aldlf::{Edge, Entry, State};
-
-// No configuration, no entry; and, as a distance, not reached.
-pub const FAR: u16 = 65535;
 
 // A configuration by its two numbers.
 #[derive(Clone, Copy)]
@@ -37,38 +34,30 @@ pub fn numbered(c: u16, states: u16, reciprocal: u32) -> Configuration
     }
 }
 
-// The entry that an edge of this direction leaves to arrive at j, or FAR.
-fn entry_before(dir: u8, j: u16, n: u16) -> u16
-    requires { (j < n) × (n ≤ entry_limit) }
-    ensures { (result ≡ entry_before dir j n) × ((result ≡ far → ⊥) → result < n) }
+// The entry that an edge of this direction leaves to arrive at j.
+fn entry_before(dir: u8, j: Entry, n: u16) -> Option<Entry>
+    requires { (j.0 < n) × (n ≤ entry_limit) }
+    ensures { (entry_or_far result ≡ entry_before dir j.0 n) × IfSome result (λ i. i.0 < n) }
 {
-    if dir == 0 {
-        return j;
+    match dir {
+        0 => Some(j),
+        1 => Some(Entry(j.0.checked_sub(1)?)),
+        _ if j.0 + 1 < n => Some(Entry(j.0 + 1)),
+        _ => None,
     }
-    if dir == 1 {
-        if j == 0 {
-            return FAR;
-        }
-        return j - 1;
-    }
-    if j + 1 < n { j + 1 } else { FAR }
 }
 
-// The configuration from which e leads to its state at entry j, or FAR.
-pub fn prior(words: &[u64], e: Edge, states: u8, j: Entry) -> u16
+// The configuration from which e leads to its state at entry j.
+pub fn prior(words: &[u64], e: Edge, states: u8, j: Entry) -> Option<u16>
     requires edge_fits { EdgeFits states e }
     requires states_le_state_limit { (states ≤ state_limit) × (length (paired words.now) ≤ entry_limit) × (j.0 < length (paired words.now)) }
-    ensures { result ≡ prior_of (paired words.now) e states e.to.0 j.0 }
+    ensures { (unwrap_or result far ≡ prior_of (paired words.now) e states e.to.0 j.0) × IfSome result (λ c. c < length (paired words.now) * states) }
 {
-    let i = entry_before(e.dir, j.0, (words.len() / 2) as u16);
-    if i == FAR {
-        return FAR;
+    let before = entry_before(e.dir, j, (words.len() / 2) as u16)?;
+    if !reach::verdict(words, before.0 as usize, e.test) {
+        return None;
     }
-    let test = e.test;
-    if !reach::verdict(words, i as usize, test) {
-        return FAR;
-    }
-    i * (states as u16) + (e.from.0 as u16)
+    Some(before.0 * (states as u16) + (e.from.0 as u16))
 }
 
 // Ahead for back, and back for ahead.
@@ -76,21 +65,16 @@ fn turned(dir: u8) -> u8
     requires { dir ≤ 2 }
     ensures { result ≡ turned_of dir }
 {
-    if dir == 0 {
-        return 0;
-    }
-    3 - dir
+    if dir == 0 { 0 } else { 3 - dir }
 }
 
-// The entry at which e arrives from entry i, or FAR.
-pub fn arrival(words: &[u64], e: Edge, i: Entry) -> u16
+// The entry at which e arrives from entry i.
+pub fn arrival(words: &[u64], e: Edge, i: Entry) -> Option<Entry>
     requires { (e.test.0 < node_limit) × (e.dir ≤ 2) × (length (paired words.now) ≤ entry_limit) × (i.0 < length (paired words.now)) }
-    ensures { (result ≡ arrival_of (paired words.now) e i.0) × ((result ≡ far → ⊥) → result < length (paired words.now)) }
+    ensures { (entry_or_far result ≡ arrival_of (paired words.now) e i.0) × IfSome result (λ j. j.0 < length (paired words.now)) }
 {
-    let test = e.test;
-    if !reach::verdict(words, i.0 as usize, test) {
-        return FAR;
+    if !reach::verdict(words, i.0 as usize, e.test) {
+        return None;
     }
-    let dir = turned(e.dir);
-    entry_before(dir, i.0, (words.len() / 2) as u16)
+    entry_before(turned(e.dir), i, (words.len() / 2) as u16)
 }

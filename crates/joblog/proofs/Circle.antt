@@ -1,5 +1,5 @@
 -- The circle of counters: the steps between two, and the entry that bears one, which is exactly one where there is any.
-use Rattle.std.proofs.Common.{◌≡◌, ℕ, ◌+◌, ◌%◌, ◌<◌, ◌≤◌, Bool, true, false, ltb, ◌↔◌, sym, refl, ap, ◌∙◌, arith, ltb-false, ltb-true, le-ltb, lt-ltb, le-leb}
+use Rattle.std.proofs.Common.{◌≡◌, ℕ, ◌+◌, ◌%◌, ◌<◌, ◌≤◌, Bool, true, false, ◌&&◌, leb, ltb, ◌↔◌, sym, refl, ap, ◌∙◌, arith, ltb-false, ltb-true, le-ltb, lt-ltb, le-leb}
 use borrow.Author.Tests.{lt-leb}
 use Rattle.aldlf.specs.Constants.{entry_limit}
 use Rattle.joblog.specs.Counted.{counter_limit, steps_between, Lookup, entry_bearing}
@@ -13,6 +13,10 @@ module _ (first n c : ℕ) where
   steps = steps_between first c
 
   -- the code's answers are the definition's
+  pub lookup_out : (leb 1 n && leb n entry_limit) ≡ false → entry_bearing first n c ≡ record { number = 32; entry = 0 }
+  unfolding entry_bearing
+  lookup_out h = rw h
+
   pub lookup_none : n ≡ 0 → entry_bearing first n c ≡ record { number = 32; entry = 0 }
   unfolding entry_bearing
   lookup_none h = rw h

@@ -4,12 +4,9 @@ use mathlib.Core.Bool.{and-false}
 use borrow.Author.Tests.{eqb-false}
 use Rattle.aldlf.specs.Outcomes.{first_no}
 use Rattle.text.specs.Text.{comma, up_to}
-use Rattle.joblog.specs.declared.facts.Facts.{Facts}
-use Rattle.joblog.specs.declared.facts.Facts.TheVariants.{NotNumbers, TooLarge, NotRising, Word}
-use Rattle.joblog.specs.declared.forms.Asked.{Asked}
-use Rattle.joblog.specs.Log.{question_of}
+use Rattle.joblog.specs.Log.{Facts, NotNumbers, TooLarge, NotRising, Word, question_of}
 use Rattle.joblog.specs.Counted.{counter_limit, counter_at, facts_at, are_numbers, follows, counted_question}
-use Rattle.joblog.specs.Steps.{facts_by, question_by, AskedOf}
+use Rattle.joblog.specs.Steps.{facts_by, question_by}
 
 four_asked : (a b c d x y z w : Bool) (q : ℕ) → a ≡ x → b ≡ y → c ≡ z → d ≡ w → first_no ((a, 24) ∷ (b, 28) ∷ (c, 29) ∷ (d, q) ∷ []) ≡ first_no ((x, 24) ∷ (y, 28) ∷ (z, 29) ∷ (w, q) ∷ [])
 four_asked a b c d x y z w q e f g h =
@@ -55,10 +52,6 @@ module _ (due : ℕ) (l : List ℕ) where
       pub line_facts : follows due (counter_at l) ≡ true → q ≡ counted_question due l
       line_facts h = last_asked q (eqb q 0) refl ∙ sym (asked true true true (eqb q 0) yes_24 (lt-ltb (counter_at l) counter_limit small) h refl)
 
-  -- a no is all that the answer says
-  pub asked_no : (r : Asked) (n : ℕ) → r.number ≡ n → n ≡ counted_question due l → (n ≡ 0 → ⊥) → AskedOf true due l r
-  asked_no r n e f nz = record { number = e ∙ f; next = λ z. absurd (nz (sym e ∙ z)) }
-
 -- a line that gets no no has a comma, a counter, the one due, and facts that get none
 pub record Yes (due : ℕ) (l : List ℕ) : Type 0 where
   pub parted : up_to comma l < length l
@@ -80,10 +73,6 @@ question_yes due l h =
     let q = question_of (facts_at l) in
     let y = four_yes (ltb (up_to comma l) (length l)) (are_numbers (facts_at l)) (ltb (counter_at l) counter_limit) (follows due (counter_at l)) (eqb q 0) q refl h in
     record { parted = ltb-true (up_to comma l) (length l) y.0; counter = ltb-true (counter_at l) counter_limit y.1; next = y.2; facts = eqb-true q 0 y.3 }
-
--- of the form that a line has
-pub asked_by : (b counted : Bool) (due : ℕ) (l : List ℕ) (r : Asked) → b ≡ counted → AskedOf b due l r → AskedOf counted due l r
-asked_by b counted due l r e a = rw (← e) a
 
 -- a number that a line of either form gets a no from: at most 29, and not 27
 abbrev pub OfLine : ℕ → Type 0

@@ -1,11 +1,9 @@
 -- The answer to a log with counters is that of the reading by form, with the first counter where it was read.
 use Rattle.std.proofs.Common.{◌≡◌, ℕ, ◌<◌, true, List, length, sym, ap, ◌∙◌}
-use Rattle.joblog.specs.declared.LogAnswer.{LogAnswer}
-use Rattle.joblog.specs.declared.LogAnswer.TheVariants as plain
-use Rattle.joblog.specs.declared.CountedAnswer.TheVariants.{Read, Refused}
+use Rattle.joblog.specs.Log as plain
 use Rattle.joblog.specs.declared.counters.Counter.{Counter}
-use Rattle.joblog.specs.Log.{LogRead, answer_of, outcome_of}
-use Rattle.joblog.specs.Counted.{counter_limit, read_counted, first_counter, counted_answer_of, first_of, counted_outcome}
+use Rattle.joblog.specs.Log.{LogAnswer, LogRead, answer_of, outcome_of}
+use Rattle.joblog.specs.Counted.{Read, Refused, counter_limit, read_counted, first_counter, counted_answer_of, first_of, counted_outcome}
 use Rattle.joblog.specs.Steps.{read_by}
 use Rattle.joblog.proofs.BothForms.{read-counted}
 use Rattle.joblog.proofs.Answers.{sound_counted}

@@ -1,4 +1,5 @@
 pub mod LineFacts
+pub mod Results
 pub mod Words
 pub mod Places
 pub mod CountedLine

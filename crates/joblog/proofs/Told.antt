@@ -1,9 +1,7 @@
 -- What an answer says to its caller: a log that was read has an entry and a refusal has a number, so Read and Refused are told apart by their
 -- outcomes; each answer is the log as read, and the buffer is what reading leaves.
 use Rattle.std.proofs.Common.{◌≡◌, ℕ, List, ◌++◌, length, drop, sym, refl, ap, ◌∙◌, arith}
-use Rattle.joblog.specs.declared.LogAnswer.{LogAnswer}
-use Rattle.joblog.specs.declared.LogAnswer.TheVariants.{Read, Refused}
-use Rattle.joblog.specs.Log.{LogRead, entries, refused, stored_in, LogOutcome, answer_of, outcome_of}
+use Rattle.joblog.specs.Log.{LogAnswer, Read, Refused, LogRead, entries, refused, stored_in, LogOutcome, answer_of, outcome_of}
 use Rattle.joblog.proofs.Answers.{Sound}
 
 -- the outcome of an answer's case is that of the log as read

@@ -1,15 +1,14 @@
 -- The log with the platesetter's counter: the circle of counters, what a line says, questions 24 to 29 in their order, and the entry that bears a counter.
-use Rattle.std.specs.Prelude.{ℕ, ◌+◌, ◌-◌, ◌%◌, Bool, true, false, cond, not, ◌&&◌, ◌||◌, List, [], ◌∷◌, ◌++◌, length, take, drop, ◌==◌, nat_le, nat_lt}
+use Rattle.std.specs.Prelude.{ℕ, ◌+◌, ◌-◌, ◌%◌, Bool, cond, not, ◌&&◌, ◌||◌, List, [], ◌∷◌, ◌++◌, length, take, drop, ◌==◌, nat_le, nat_lt, Result, Ok, Err}
 use Rattle.aldlf.specs.Constants.{entry_limit}
 use Rattle.aldlf.specs.Outcomes.{first_no}
 use Rattle.text.specs.Text.{lf, comma, up_to, lines, line_at, number_in}
-use Rattle.joblog.specs.declared.facts.Facts.{Facts}
-use Rattle.joblog.specs.declared.LogAnswer.TheVariants as plain
-use Rattle.joblog.specs.declared.CountedAnswer.{CountedAnswer}
-use Rattle.joblog.specs.declared.CountedAnswer.TheVariants.{Read, Refused}
-use Rattle.joblog.specs.declared.counters.Found.{Found}
-use Rattle.joblog.specs.declared.counters.Found.TheVariants as found
-use Rattle.joblog.specs.Log.{LogRead, entries, refused, entry, as_text, facts_of, question_of, LogOutcome, answer_of, outcome_of}
+use Rattle.aldlf.specs.declared.Entry.{Entry}
+use Rattle.aldlf.specs.declared.Refusal.{Refusal}
+use Rattle.aldlf.specs.Refusals.{refusal_number}
+use Rattle.joblog.specs.declared.counters.Counter.{Counter}
+use Rattle.joblog.specs.Log as plain
+use Rattle.joblog.specs.Log.{Facts, LogRead, entries, refused, entry, as_text, facts_of, question_of, LogOutcome, answer_of, outcome_of}
 
 -- counters are below this number, and after the last comes 0 again
 abbrev pub counter_limit : ℕ
@@ -76,6 +75,11 @@ pub record CountedOutcome : Type 0 where
   pub log : LogOutcome
   pub first : ℕ
 
+-- What reading a log with counters answers: how many entries were read, and the first counter; or the number of the question that got a no, and its line.
+pub data CountedAnswer : Type 0 where
+  Read : ℕ → Counter → CountedAnswer
+  Refused : ℕ → ℕ → CountedAnswer
+
 -- an answer's case: Read has the count of entries and the first counter; Refused its number and line
 abbrev pub counted_answer_of : CountedAnswer → List ℕ → CountedOutcome
 counted_answer_of (Read n c) buffer = record { log = answer_of (plain.Read n) buffer; first = c.0 }
@@ -104,12 +108,7 @@ entry_bearing first n c =
     (record { number = 30; entry = 0 }))
     (record { number = 32; entry = 0 })
 
--- an answer's case: At is number 0 with the entry; Refused its number with entry 0
-abbrev pub found_of : Found → Lookup
-found_of (found.At e) = record { number = 0; entry = e.0 }
-found_of (found.Refused q) = record { number = q; entry = 0 }
-
--- whether an entry was found
-abbrev pub is_at : Found → Bool
-is_at (found.At e) = true
-is_at (found.Refused q) = false
+-- a result's case: an entry is number 0 with it; a refusal its number with entry 0
+abbrev pub found_of : Result Entry Refusal → Lookup
+found_of (Ok e) = record { number = 0; entry = e.0 }
+found_of (Err r) = record { number = refusal_number r; entry = 0 }

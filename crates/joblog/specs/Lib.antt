@@ -1,4 +1,5 @@
 pub mod Log
 pub mod Counted
+pub mod Results
 pub mod Reader
 pub mod Steps

@@ -1,13 +1,13 @@
--- What the steps of the code say, for the contracts of its own functions only: the facts read so far, a log of either form judged line by line, its words stored.
-use Rattle.std.specs.Prelude.{◌≡◌, ℕ, ◌+◌, ◌^◌, ◌<◌, ◌≤◌, Bool, true, false, cond, ◌&&◌, List, [], ◌∷◌, length, ◌==◌, nat_le, nat_lt}
-use Rattle.aldlf.specs.Constants.{fact_limit, entry_limit}
-use Rattle.text.specs.Text.{not_number, lines, line_at}
-use Rattle.joblog.specs.declared.facts.Facts.{Facts}
-use Rattle.joblog.specs.declared.facts.Facts.TheVariants.{NotNumbers, TooLarge, NotRising, Word}
+-- What the steps of the code say, for the contracts of its own functions only: the facts read so far, what a line and a log of either form are asked, its words stored.
+use Rattle.std.specs.Prelude.{◌≡◌, ℕ, ◌+◌, ◌^◌, ◌<◌, ◌≤◌, Bool, true, false, cond, ◌&&◌, List, [], ◌∷◌, length, nat_le, nat_lt, Option, Some, None, Result, Ok, Err}
+use Rattle.aldlf.specs.Constants.{fact_limit}
+use Rattle.text.specs.Text.{not_number, lines}
 use Rattle.joblog.specs.declared.facts.Seen.{Seen}
-use Rattle.joblog.specs.declared.forms.Asked.{Asked}
-use Rattle.joblog.specs.declared.judging.Judged.{Judged}
-use Rattle.joblog.specs.Log.{pick, all_below, rising, word_of, facts_of, question_of, word_in, LogRead, entries, entry, as_text}
+use Rattle.joblog.specs.declared.LogQuestion.{LogQuestion}
+use Rattle.joblog.specs.declared.LogRefusal.{LogRefusal}
+use Rattle.joblog.specs.declared.counters.Counter.{Counter}
+use Rattle.joblog.specs.Log.{Facts, NotNumbers, TooLarge, NotRising, Word, pick, all_below, rising, word_of, facts_of, question_of, word_in, LogRead, entries, refused, entry, as_text}
+use Rattle.joblog.specs.Results.{question_number}
 use Rattle.joblog.specs.Counted.{counter_limit, next_counter, counter_at, facts_at, counted_question}
 
 -- questions 24 to 26 of the numbers of a line, after those that s tells of
@@ -52,10 +52,20 @@ abbrev pub due_by : (counted : Bool) (due : ℕ) → List ℕ → ℕ
 due_by true due l = next_counter (counter_at l)
 due_by false due l = due
 
--- what a line is asked
-pub record AskedOf (counted : Bool) (due : ℕ) (l : List ℕ) (r : Asked) : Type 0 where
-  pub number : r.number ≡ question_by counted due l
-  pub next : r.number ≡ 0 → r.due.0 ≡ due_by counted due l
+-- a counter that may be due; none is due before the first line, for which the limit stands
+abbrev pub due_of : Option Counter → ℕ
+due_of None = counter_limit
+due_of (Some c) = c.0
+
+-- the counter of a line, where it has one
+abbrev pub CounterOf : List ℕ → Option Counter → Type 0
+CounterOf l None = counter_limit ≤ counter_at l
+CounterOf l (Some c) = c.0 ≡ counter_at l
+
+-- what a line is asked: the counter due after it; or the question that gets a no
+abbrev pub AskedOf : (counted : Bool) (due : ℕ) (l : List ℕ) → Result (Option Counter) LogQuestion → Type 0
+AskedOf counted due l (Ok next) = (question_by counted due l ≡ 0) × (due_of next ≡ due_by counted due l)
+AskedOf counted due l (Err q) = question_by counted due l ≡ question_number q
 
 -- the lines of either form after the first k: read_lines and counted_lines
 unfoldable pub lines_by : (counted : Bool) (due k : ℕ) → List (List ℕ) → LogRead
@@ -71,35 +81,9 @@ unfoldable pub words_by : (counted : Bool) → List (List ℕ) → List ℕ
 words_by counted [] = []
 words_by counted (l ∷ ls) = word_in (facts_by counted l) ∷ words_by counted ls
 
--- a log before its first line
-abbrev pub unread_by : (counted : Bool) → Judged
-unread_by counted = record { more = true; count = 0; number = 0; line = 0; counted = counted; due = record { 0 = counter_limit } }
-
--- one line more read, and more are asked for
-abbrev pub going : Judged → (due : ℕ) → Judged
-going j due = record { more = true; count = j.count + 1; number = 0; line = 0; counted = j.counted; due = record { 0 = due } }
-
--- all lines read
-abbrev pub done : Judged → Judged
-done j = record { more = false; count = j.count; number = 0; line = 0; counted = j.counted; due = j.due }
-
--- question q got a no at line k
-abbrev pub stopped_at : (q k : ℕ) → Judged
-stopped_at q k = record { more = false; count = 0; number = q; line = k; counted = false; due = record { 0 = 0 } }
-
--- a line more: question 23, then its own
-unfoldable pub with_line : Judged → List ℕ → Judged
-with_line j l =
-    let q = question_by j.counted j.due.0 l in
-    cond (nat_lt j.count entry_limit)
-    (cond (q == 0) (going j (due_by j.counted j.due.0 l)) (stopped_at q (j.count + 1)))
-    (stopped_at 23 (entry_limit + 1))
-
--- the line at a place; at the text's end there is none
-unfoldable pub with_line_at : List ℕ → (at : ℕ) → Judged → Judged
-with_line_at text at j = cond (nat_lt at (length text)) (with_line j (line_at text at)) (done j)
-
--- line after line, while more are asked for
-unfoldable pub with_lines : Judged → List (List ℕ) → Judged
-with_lines j [] = cond j.more (done j) j
-with_lines j (l ∷ ls) = cond j.more (with_lines (with_line j l) ls) j
+-- what lines after k others are judged, by what they read to: how many lines there are in all; or the question that got a no, and its line
+abbrev pub JudgedFrom : (k : ℕ) → LogRead → Result ℕ LogRefusal → Type 0
+JudgedFrom k (entries ws) (Ok n) = n ≡ k + length ws
+JudgedFrom k (entries ws) (Err r) = ⊥
+JudgedFrom k (refused q l) (Ok n) = ⊥
+JudgedFrom k (refused q l) (Err r) = (question_number r.question ≡ q) × (r.line ≡ l)

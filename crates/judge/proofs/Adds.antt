@@ -1,11 +1,12 @@
 -- A verdict added to each entry's number, one entry after the other, and counted; arrays filled place by place.
 use Rattle.std.specs.Prelude.{◌≡◌, ℕ, zero, suc, ◌+◌, ◌*◌, ◌^◌, ◌<◌, ◌≤◌, Bool, true, false, eqb, ltb, ◌⊎◌, List, ◌++◌, length, get_or, take, drop, set, replicate}
 use native.Mathlib.Omega.{arith}
+use mir.Val.{bool_byte}
 use native.Mathlib.Numerals.{add-one}
 use mathlib.Core.Path.{refl, sym, subst, ap, ap₂, ◌∙◌}
 use mathlib.Core.Logic.{inl, inr}
-use lib.ListN.{length-set, length-append, length-take, get_or-eq_default}
-use lib.Seq.{ext_get_or, get_or-set_same, get_or-set_other, get_or-take, length-take-le, drop-cons, set_at, append_snoc, take-suc, take_at}
+use lib.ListN.{length-set, length-take, get_or-eq_default}
+use lib.Seq.{ext_get_or, get_or-set_same, get_or-set_other, get_or-take, take_at}
 use borrow.Author.Tests.{eqb-true, eqb-false, ltb-true, ltb-false}
 use Rattle.aldlf.specs.Constants.{node_limit}
 use Rattle.aldlf.specs.Sheet.{bit}
@@ -22,6 +23,15 @@ added_none k f l = record { counted = refl; same = refl; done = λ i h. absurd (
 added_is : (w k : ℕ) (on : Bool) → verdict_added w k on ≡ one on * 2 ^ k + w
 added_is w k true = omega arith
 added_is w k false = omega arith
+
+-- a verdict as a number to add to the count
+pub byte_is : (on : Bool) → bool_byte on ≡ one on
+byte_is true = refl
+byte_is false = refl
+
+pub byte_few : (on : Bool) → bool_byte on ≤ 1
+byte_few true = omega arith
+byte_few false = omega arith
 
 -- place n: F tells the verdict from the word before; the bit that it sets is counted
 pub added_turn : (k : ℕ) (F : ℕ → ℕ → Bool) (n : ℕ) (before after : List ℕ) (on : Bool) (v held held2 : ℕ) → Added k (λ i. F i (at before i)) n before after held → n < length before
@@ -51,14 +61,6 @@ added_turn k F n before after on v held held2 a l low o e c =
     now-at i h (inl p) = subst (λ (j : ℕ). at (set after n v) j ≡ verdict_added (at before j) k (F j (at before j))) (sym (eqb-true i n p)) (get_or-set_same after n v 0 (omega (arith, a.same)) ∙ now-is)
     now-at i h (inr p) = let ne = eqb-false i n p in get_or-set_other after n i v 0 ne ∙ a.done i (omega arith)
 
--- one word more in the first places of a buffer
-pub put_next : (buffer words : List ℕ) (i : ℕ) → i < length buffer → i < length words → set (take i words ++ drop i buffer) i (get_or words i 0) ≡ take (i + 1) words ++ drop (i + 1) buffer
-put_next buffer words i hb hw =
-    rw (add-one i, drop-cons buffer i 0 hb)
-    (set_at (take i words) (get_or buffer i 0) (drop (suc i) buffer) (get_or words i 0) i (length-take-le i words (omega arith))
-    ∙ sym (append_snoc (take i words) (get_or words i 0) (drop (suc i) buffer))
-    ∙ ap (λ (r : List ℕ). r ++ drop (suc i) buffer) (sym (take-suc words i 0 hw)))
-
 -- Scratch -----------------------------------------------------------------------------------------------------------------------
 
 pub zeros_at : (n j : ℕ) → let z : ℕ = 0 in get_or (replicate n z) j z ≡ z
@@ -76,18 +78,6 @@ take_zeros n l z i = go (lt-or-le i n)
 -- the first places of l after they were lent and came back as w
 pub lent_back : (n : ℕ) (w l : List ℕ) → length w ≡ n → take n (w ++ drop n l) ≡ w
 lent_back n w l e = take_at w (drop n l) n e
-
-pub lent_room : (n : ℕ) (w l : List ℕ) → length w ≡ n → n ≤ length (w ++ drop n l)
-lent_room n w l e = omega (arith, e, length-append w (drop n l))
-
-pub take_all : (k : ℕ) (l : List ℕ) → k ≤ length l → k ≡ length (take k l)
-take_all k l h = sym (length-take-le k l h)
-
-pub take_fits : (k : ℕ) (l : List ℕ) (m : ℕ) → k ≤ m → length (take k l) ≤ m
-take_fits k l m h = omega (arith, length-take k l)
-
-pub lent_put : (n : ℕ) (w l buffer : List ℕ) → length w ≡ n → take n (w ++ drop n l) ++ drop (length (take n (w ++ drop n l))) buffer ≡ w ++ drop n buffer
-lent_put n w l buffer e = ap (λ (l : List ℕ). l ++ drop (length l) buffer) (lent_back n w l e) ∙ ap (λ (k : ℕ). w ++ drop k buffer) e
 
 -- Rows ---------------------------------------------------------------------------------------------------------------------------
 

@@ -11,7 +11,7 @@ use Rattle.aldlf.specs.declared.NodeLine.{NodeLine}
 use Rattle.aldlf.specs.declared.Automaton.{Automaton}
 use Rattle.aldlf.specs.declared.Way.{Way}
 use Rattle.aldlf.specs.declared.Way.TheVariants.{Ahead, Back}
-use Rattle.stands.specs.declared.lent.Looks.{Looks}
+use Rattle.stands.specs.declared.Looks.{Looks}
 use Rattle.sheet.specs.Facts.{node_at, automaton_at, Lent}
 use Rattle.reach.specs.Marks.{at, pick, verdict_added, Reaching}
 use Rattle.reach.specs.Columns as steps

@@ -6,10 +6,10 @@ ghost use Rattle.reach.specs.Marks.{at};
 ghost use Rattle.judge.specs.Nodes.{CoreDone, CorePut, modal_kind};
 ghost use Rattle.sheet.specs.Facts.{Lent};
 
-use super::lines::is_modal;
 use super::nodes::{Have, Job, judge_node, ready};
 use aldlf::{Node, NodeLine, Row, Way};
 use packing::places::{automaton_at, line_at, used_in};
+use stands::lent::is_modal;
 
 // A log of so many entries is judged in small scratch.
 const FEW: usize = 32;
@@ -81,7 +81,7 @@ fn judge_in(
         &mut steps[..49 * n],
         &mut masks[..n],
     );
-    put_words(&words[..2 * n], verdicts);
+    verdicts[..2 * n].copy_from_slice(&words[..2 * n]);
     a
 }
 
@@ -108,8 +108,7 @@ fn judge_nodes(
         automaton: 16,
         looks: 0,
     };
-    let mut k: u8 = 0;
-    while k < count {
+    for k in 0..count {
         let line = line_at(numbers, Node(k));
         let m = automaton_number(line);
         let automaton = automaton_at(numbers, m);
@@ -125,7 +124,6 @@ fn judge_nodes(
         let a = judge_node(job, have.looks, log, words, &*steps, masks);
         out[k as usize] = a.number;
         held = a.held;
-        k += 1;
     }
     CoreAnswer {
         row: Row { bits: out },
@@ -138,16 +136,4 @@ pub(crate) fn automaton_number(line: NodeLine) -> u8
     ensures { (modal_kind line.kind ≡ true → result ≡ line.a) × (modal_kind line.kind ≡ false → result ≡ 0) }
 {
     if is_modal(line.kind) { line.a } else { 0 }
-}
-
-// The words in the first places of the buffer; the rest keeps its content.
-fn put_words(words: &[u64], verdicts: &mut [u64])
-    requires { length words.now ≤ length verdicts.old }
-    ensures { verdicts.new ≡ words.now ++ drop (length words.now) verdicts.old }
-{
-    let mut i: usize = 0;
-    while i < words.len() {
-        verdicts[i] = words[i];
-        i += 1;
-    }
 }

@@ -2,40 +2,36 @@
 ghost use Rattle.std.specs.Prelude.{◌≡◌, ◌*◌, ◌≤◌, ◌++◌, length, drop, ◌==◌};
 ghost use Rattle.aldlf.specs.Constants.{entry_limit};
 ghost use Rattle.aldlf.specs.Sheet.{sheet_of};
-ghost use Rattle.aldlf.specs.Outcomes.{log_words, held_in, plain_row, no_row, whole_number, whole_outcome, part_outcome};
+ghost use Rattle.aldlf.specs.Outcomes.{log_words, held_in, plain_row, whole_number, whole_outcome, part_outcome};
 ghost use Rattle.aldlf.specs.declared.Table.{Table};
 ghost use Rattle.packing.specs.Packed.{Packed};
 ghost use Rattle.sheet.specs.Given.{well_formed};
-ghost use Rattle.judge.specs.Answers.{whole_of, is_held, part_of, plain_answer_of};
+ghost use Rattle.judge.specs.Answers.{whole_of, is_held, part_of, row_answer, plain_answer_of};
 ghost use Rattle.sheet.specs.Facts.{Lent};
 ghost use Rattle.judge.specs.Prepared.{Prepared};
 
 use super::engine::{Part, judge_core};
 use super::questions::{part_question, whole_question};
-use super::rows::{end_row, no_row};
-use super::{Judged, PartAnswer};
-use aldlf::{Row, Way};
+use super::rows::end_row;
+use aldlf::{Refusal, Row, Way};
 use packing::places::PLACES;
-use stands::lent::{rule_numbers, rule_ways};
+use stands::lent::{given_rule_numbers, rule_ways};
 
 // Judges a whole log, as `judge` does.
-pub fn judge_lent(numbers: &[u32], log: &[u32], verdicts: &mut [u64]) -> Judged
+pub fn judge_lent(numbers: &[u32], log: &[u32], verdicts: &mut [u64]) -> Result<usize, Refusal>
     requires { (t : Table) × Packed t numbers.now }
     ensures verdicts_after { (t : Table) → Packed t numbers.now → whole_of result verdicts.new ≡ whole_outcome (well_formed t) (sheet_of t) log.now verdicts.old }
     ensures result_value { (t : Table) → Packed t numbers.now → is_held result ≡ (whole_number (well_formed t) log.now verdicts.old == 0) }
 {
     let n = log.len();
-    let q = whole_question(numbers, n, verdicts.len());
-    if q != 0 {
-        return Judged::Refused(q);
-    }
+    whole_question(numbers, n, verdicts.len())?;
     let row = end_row(numbers);
     let part = Part {
         way: Way::Ahead,
         row,
     };
     let a = judge_core(part, numbers, log, verdicts);
-    Judged::Held(a.held)
+    Ok(a.held)
 }
 
 // Judges a part, as `judge_part` does: by the table in which every node that the rule does not stand on is false.
@@ -45,52 +41,26 @@ pub fn part_lent(
     row: Row,
     words: &[u32],
     verdicts: &mut [u64],
-) -> PartAnswer
+) -> Result<Row, Refusal>
     requires { (t : Table) × Packed t numbers.now }
     ensures { (t : Table) → Packed t numbers.now → part_of result verdicts.new ≡ part_outcome (well_formed t) way (sheet_of t) row words.now verdicts.old }
 {
-    if !sheet::is_given_packed(numbers) {
-        return refused_part(31);
-    }
     let mut own = [0u32; PLACES];
-    rule_numbers(numbers, &mut own);
-    let q = part_question(rule_ways(&own), way, words.len(), verdicts.len());
-    if q != 0 {
-        return refused_part(q);
-    }
+    given_rule_numbers(numbers, &mut own)?;
+    part_question(rule_ways(&own), way, words.len(), verdicts.len())?;
     let part = Part { way, row };
     let a = judge_core(part, &own, words, verdicts);
-    let out = a.row;
-    PartAnswer {
-        number: 0,
-        row: out,
-    }
+    Ok(a.row)
 }
 
 // The plain row, as `plain_row` gives it.
-pub fn plain_row_lent(numbers: &[u32]) -> PartAnswer
+pub fn plain_row_lent(numbers: &[u32]) -> Result<Row, Refusal>
     requires { (t : Table) × Packed t numbers.now }
-    ensures { (t : Table) → Packed t numbers.now → result ≡ plain_answer_of t }
+    ensures { (t : Table) → Packed t numbers.now → row_answer result ≡ plain_answer_of t }
 {
-    if !sheet::is_given_packed(numbers) {
-        return refused_part(31);
-    }
     let mut own = [0u32; PLACES];
-    rule_numbers(numbers, &mut own);
-    PartAnswer {
-        number: 0,
-        row: end_row(&own),
-    }
-}
-
-// What stands beside a refusal: a row all zeros.
-fn refused_part(number: u8) -> PartAnswer
-    ensures { result ≡ record { number = number; row = no_row } }
-{
-    PartAnswer {
-        number,
-        row: no_row(),
-    }
+    given_rule_numbers(numbers, &mut own)?;
+    Ok(end_row(&own))
 }
 
 // The plain row of a table that some sheet gives, of all its nodes: a whole log is judged with it.

@@ -10,10 +10,11 @@ ghost use Rattle.reach.specs.Marks.{at, paired, EdgesFit};
 ghost use Rattle.reach.specs.Columns.{Placed};
 ghost use Rattle.judge.specs.Nodes.{modal_kind, says_now, PlainFits, Added, ModalFits, ModalDone, Known, NodeDone, cut_of, Stepped, Kept, Ready};
 
-use super::lines::{is_modal, plain_line};
+use super::lines::plain_line;
 use super::rows::{facing_mask, row_number};
 use aldlf::{Automaton, Node, NodeLine, Way};
 use reach::Goal;
+use stands::lent::is_modal;
 
 // A node to judge: its number and line, the automaton that its line names if it is a D or B, its number in the row that is
 // given, and the way that parts are cut.
@@ -34,6 +35,7 @@ pub(crate) struct NodeAnswer {
 }
 
 // The automaton whose steps are at hand, 16 for none, and which ways its edges go.
+// An Option is no plainer: `judge_node` takes the ways for every line, so where no steps are at hand the ways would need a stand-in.
 #[derive(Clone, Copy)]
 pub(crate) struct Have {
     pub(crate) automaton: u8,
@@ -93,14 +95,11 @@ fn judge_plain(line: NodeLine, number: Node, log: &[u32], words: &mut [u64]) -> 
     ensures { Added number.0 (λ i. says_now (line_of line.kind line.a line.b) (at log.now i) (at (paired words.old) i))
         (length (paired words.old)) (paired words.old) (paired words.new) result }
 {
-    let n = log.len();
     let mut held: usize = 0;
-    let mut i: usize = 0;
-    while i < n {
-        let on = plain_line(line, log[i], &*words, i);
+    for (i, facts) in log.iter().enumerate() {
+        let on = plain_line(line, *facts, &*words, i);
         reach::put_verdict(words, i, number, on);
-        held = counted(held, on);
-        i += 1;
+        held += usize::from(on);
     }
     held
 }
@@ -137,23 +136,12 @@ fn write_modal(job: Job, want: bool, masks: &[u16], words: &mut [u64]) -> usize
     requires { (job.automaton.start.0 < word_bits) × (job.number.0 < node_limit) × (length (paired words.old) ≡ length masks.now) × ((i : ℕ) → i < length (paired words.old) → at (paired words.old) i < 2 ^ job.number.0) }
     ensures { Added job.number.0 (λ i. facing want (bit_of (at masks.now i) job.automaton.start.0)) (length (paired words.old)) (paired words.old) (paired words.new) result }
 {
-    let n = masks.len();
     let mut set: usize = 0;
-    let mut i: usize = 0;
-    while i < n {
-        let x = masks[i] as u64;
-        let on = reach::facing(want, reach::bit(x, job.automaton.start.0));
+    for (i, mask) in masks.iter().enumerate() {
+        let at_start = reach::bit(u64::from(*mask), job.automaton.start.0);
+        let on = reach::facing(want, at_start);
         reach::put_verdict(words, i, job.number, on);
-        set = counted(set, on);
-        i += 1;
+        set += usize::from(on);
     }
     set
-}
-
-// One more where it is on.
-fn counted(held: usize, on: bool) -> usize
-    requires { held + 1 < 2 ^ 64 }
-    ensures { result ≡ one on + held }
-{
-    if on { held + 1 } else { held }
 }

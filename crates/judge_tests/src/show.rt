@@ -1,70 +1,30 @@
 // What is printed of an outcome.
-use aldlf::Row;
-use judge::Judged;
-use stands::RuleLooks;
+use aldlf::{Refusal, Row};
+use cases::show::numbers;
+use stands::Looks;
 use std::io;
 
-// The count held, or a refusal's number.
-pub(crate) fn judged(rt: &impl Print, r: Judged) -> io::Result<()> {
-    match r {
-        Judged::Held(n) => {
-            put(rt, b" held")?;
-            number(rt, n as u64)
-        }
-        Judged::Refused(q) => {
-            put(rt, b" refused")?;
-            number(rt, q as u64)
-        }
-    }
-}
-
 // Which ways a rule looks, or a refusal's number.
-pub(crate) fn looks(rt: &impl Print, a: RuleLooks) -> io::Result<()> {
-    number(rt, a.number as u64)?;
-    put(rt, b" ahead")?;
-    yes(rt, a.ahead)?;
-    put(rt, b" back")?;
-    yes(rt, a.back)
+pub(crate) fn looks(rt: &impl Print, a: Result<Looks, Refusal>) -> io::Result<()> {
+    match a {
+        Ok(l) => print!(rt; " 0 ahead {} back {}", yes(l.ahead), yes(l.back)),
+        Err(r) => print!(rt; " {} ahead no back no", r.number()),
+    }
 }
 
-fn yes(rt: &impl Print, on: bool) -> io::Result<()> {
-    if on {
-        return put(rt, b" yes");
-    }
-    put(rt, b" no")
+fn yes(on: bool) -> &'static str {
+    if on { "yes" } else { "no" }
 }
 
 // The numbers of a row's first four nodes and of its last.
-pub(crate) fn row(rt: &impl Print, row: Row) -> io::Result<()> {
-    put(rt, b" row")?;
-    number(rt, wide(row.bits[0]))?;
-    number(rt, wide(row.bits[1]))?;
-    number(rt, wide(row.bits[2]))?;
-    number(rt, wide(row.bits[3]))?;
-    put(rt, b" ..")?;
-    number(rt, wide(row.bits[aldlf::NODES - 1]))
+pub(crate) fn row(rt: &impl Print, row: &Row) -> io::Result<()> {
+    rt.write_all(b" row")?;
+    numbers(rt, &row.bits[..4])?;
+    print!(rt; " .. {}", row.bits[aldlf::NODES - 1])
 }
 
 // The words from a place on.
 pub(crate) fn words(rt: &impl Print, words: &[u64], from: usize) -> io::Result<()> {
-    put(rt, b" words")?;
-    let mut i = from;
-    while i < words.len() {
-        number(rt, words[i])?;
-        i += 1;
-    }
-    Ok(())
-}
-
-pub(crate) fn number(rt: &impl Print, n: u64) -> io::Result<()> {
-    put(rt, b" ")?;
-    rt.print(n)
-}
-
-pub(crate) fn put(rt: &impl Print, s: &[u8]) -> io::Result<()> {
-    rt.write_all(s)
-}
-
-fn wide(x: u16) -> u64 {
-    x as u64
+    rt.write_all(b" words")?;
+    numbers(rt, words.get(from..).unwrap_or(&[]))
 }

@@ -41,16 +41,11 @@ fn put_refused(out: &mut [u8], at: usize, number: u8, line: usize) -> usize
 fn verdict_digit(words: &[u64], entry: usize, node: Node) -> usize
     ensures { result ≡ verdict_digit words.now entry node.0 }
 {
-    if aldlf::NODES <= node.0 as usize {
-        return 0;
+    if aldlf::NODES <= usize::from(node.0) || words.len() / 2 <= entry {
+        0
+    } else {
+        usize::from(reach::verdict(words, entry, node))
     }
-    if words.len() / 2 <= entry {
-        return 0;
-    }
-    if reach::verdict(words, entry, node) {
-        return 1;
-    }
-    0
 }
 
 // The number of an entry and the rule's verdict there.
@@ -67,13 +62,9 @@ fn put_entry(out: &mut [u8], at: usize, entry: usize, verdict: usize) -> usize
 fn put_entries(out: &mut [u8], at: usize, words: &[u64], rule: Node) -> usize
     ensures { Appends (entries_below rule.0 words.now (entries_in words.now)) out.old at out.new result }
 {
-    let n = words.len() / 2;
     let mut next = at;
-    let mut i: usize = 0;
-    while i < n {
-        let verdict = verdict_digit(words, i, rule);
-        next = put_entry(out, next, i, verdict);
-        i += 1;
+    for i in 0..words.len() / 2 {
+        next = put_entry(out, next, i, verdict_digit(words, i, rule));
     }
     next
 }
@@ -105,19 +96,11 @@ fn put_edges(out: &mut [u8], at: usize, edges: &[u16]) -> usize
     ensures { Appends (edges_below edges.now (length edges.now)) out.old at out.new result }
 {
     let mut next = at;
-    let mut i: usize = 0;
-    while i < edges.len() {
+    for &edge in edges {
         let edge_at = put(out, next, b',');
-        next = put_number(out, edge_at, wide(edges[i]));
-        i += 1;
+        next = put_number(out, edge_at, usize::from(edge));
     }
     next
-}
-
-fn wide(edge: u16) -> usize
-    ensures { result ≡ edge }
-{
-    edge as usize
 }
 
 // A walk: its length and its edges.

@@ -4,7 +4,10 @@ use mathlib.Core.Path.{◌≡◌, refl, ap, sym, ◌∙◌}
 use mathlib.Core.List.{List, [], ◌∷◌, ◌++◌, map}
 use native.Mathlib.Omega.{arith}
 use native.Mathlib.Numerals.{add-one}
-use lib.ListN.{length, get_or, take, drop, set, length-map, length-drop, get_or-map}
+use borrow.Rule.Slice.PartMut.{put_mid}
+use Rattle.std.proofs.lemmas.List.Edits.{sets-eq}
+use Rattle.std.proofs.lemmas.List.{append_assoc, drop-drop}
+use lib.ListN.{length, get_or, take, drop, set, length-map, get_or-map}
 use lib.Seq.{sets, take-suc, take-suc-set, length-take-le, get_or-drop, take_all}
 
 module _ {A B : Type 0} (f : A → B) where
@@ -58,24 +61,6 @@ module _ {A : Type 0} where
   drop-take (suc b) (suc n) [] h = sym (lib.Seq.take-nil (suc n - suc b))
   drop-take (suc b) (suc n) (x ∷ l) h = let z : suc n - suc b ≡ n - b = omega arith in rw z (drop-take b n l (omega arith))
 
-  -- a run of stores, one more
-  pub sets_snoc : (l : List A) (i : ℕ) (vs : List A) (v : A) → set (sets l i vs) (i + length vs) v ≡ sets l i (vs ++ (v ∷ []))
-  sets_snoc l i [] v = ap (λ (k : ℕ). set l k v) (let h : i + 0 ≡ i = omega arith in h)
-  sets_snoc l i (a ∷ vs) v =
-      ap (λ (k : ℕ). set (sets (set l i a) (suc i) vs) k v) (let h : i + suc (length vs) ≡ suc i + length vs = omega arith in h) ∙ sets_snoc (set l i a) (suc i) vs v
-
-  -- the k numbers from b on stored, and the next one
-  pub write_one : (l : List A) (i b k : ℕ) (es : List A) (d : A) → b + k < length es → set (sets l i (take k (drop b es))) (i + k) (get_or es (b + k) d) ≡ sets l i (take (k + 1) (drop b es))
-  write_one l i b k es d h =
-      let n = length-drop b es in
-      let z : length (take k (drop b es)) ≡ k = length-take-le k (drop b es) (omega arith) in
-      ap (λ (j : ℕ). set (sets l i (take k (drop b es))) (i + j) (get_or es (b + k) d)) (sym z)
-      ∙ sets_snoc l i (take k (drop b es)) (get_or es (b + k) d)
-      ∙ ap (λ (s : List A). sets l i s)
-      (ap (λ (v : A). take k (drop b es) ++ (v ∷ [])) (sym (get_or-drop b es k d))
-      ∙ sym (take-suc (drop b es) k d (omega arith))
-      ∙ ap (λ (j : ℕ). take j (drop b es)) (sym (add-one k)))
-
-  pub none_yet : (l : List A) (i : ℕ) (es : List A) → l ≡ sets l i (take 0 es)
-  none_yet l i [] = refl
-  none_yet l i (x ∷ es) = refl
+  -- a run of stores is what is copied over a part
+  pub put_sets : (l : List A) (i k : ℕ) (es : List A) → i + length es ≤ length l → k ≡ length es → put_mid i k l es ≡ sets l i es
+  put_sets l i k es h e = ap (λ (z : List A). take i l ++ (es ++ z)) (drop-drop k i l ∙ ap (λ (m : ℕ). drop m l) (let z : i + k ≡ i + length es = omega arith in z)) ∙ sym (append_assoc (take i l) es (drop (i + length es) l)) ∙ sym (sets-eq es l i h)

@@ -4,8 +4,12 @@ use mathlib.Core.Path.{◌≡◌, refl, ap, ◌∙◌}
 use mathlib.Core.List.{List, ◌∷◌}
 use native.Mathlib.Omega.{arith}
 use native.Mathlib.Numerals.{add-one}
-use lib.ListN.{length, get_or, set}
-use lib.Seq.{get_or-set_same, get_or-set_other}
+use lib.ListN.{length, get_or, take, set}
+use lib.Seq.{get_or-set_same, get_or-set_other, length-take-le}
+use Rattle.std.specs.List.{slice_get}
+use Rattle.std.specs.Option.{unwrap_or}
+use Rattle.std.proofs.lemmas.Option.{unwrap_or-slice_get}
+use Rattle.std.proofs.lemmas.List.{get_or-take}
 use Rattle.making.specs.declared.stack.Kept.{Kept}
 use Rattle.making.specs.Run.{last_of, rest_of}
 use Rattle.making.specs.Numbers.{kept_in, kept_of}
@@ -24,20 +28,19 @@ pushed xs n p k h e =
     ∙ ap (λ (s : List Kept). k ∷ s) (kept_below xs n n p (omega arith)))
 
 module _ (xs : List ℕ) where
-  pub last_none : (n : ℕ) → n ≡ 0 → kept_in 0 ≡ last_of (kept_of xs n)
+  -- what is below the last one
+  pub rest_is : (n : ℕ) → kept_of xs (n - 1) ≡ rest_of (kept_of xs n)
   unfolding kept_of
-  last_none n e = rw e
+  rest_is zero = refl
+  rest_is (suc n) = let z : suc n - 1 ≡ n = omega arith in rw z
 
-  pub last_some : (n : ℕ) → ¬ (n ≡ 0) → kept_in (get_or xs (n - 1) 0) ≡ last_of (kept_of xs n)
+  -- what is last of the first n numbers, if anything is
+  last_of_first : (n : ℕ) → n ≤ length xs → kept_in (get_or (take n xs) (length (take n xs) - 1) 0) ≡ last_of (kept_of xs n)
   unfolding kept_of
-  last_some zero e = absurd (e refl)
-  last_some (suc n) e = let z : suc n - 1 ≡ n = omega arith in rw z
+  last_of_first zero h = refl
+  last_of_first (suc n) h =
+      let z : length (take (suc n) xs) - 1 ≡ n = omega (arith, length-take-le (suc n) xs h) in
+      rw (z, get_or-take (suc n) xs n 0 (omega arith))
 
-  pub rest_none : (n : ℕ) → n ≡ 0 → kept_of xs 0 ≡ rest_of (kept_of xs n)
-  unfolding kept_of
-  rest_none n e = rw e
-
-  pub rest_some : (n : ℕ) → ¬ (n ≡ 0) → kept_of xs (n - 1) ≡ rest_of (kept_of xs n)
-  unfolding kept_of
-  rest_some zero e = absurd (e refl)
-  rest_some (suc n) e = let z : suc n - 1 ≡ n = omega arith in rw z
+  pub last_is : (n : ℕ) → n ≤ length xs → kept_in (unwrap_or (slice_get (take n xs) (length (take n xs) - 1)) 0) ≡ last_of (kept_of xs n)
+  last_is n h = ap kept_in (unwrap_or-slice_get (take n xs) (length (take n xs) - 1) 0) ∙ last_of_first n h

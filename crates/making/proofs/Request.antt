@@ -13,10 +13,9 @@ use Rattle.formula.specs.Counts.{Within}
 use Rattle.formula.specs.Code.{code}
 use Rattle.formula.proofs.Growing.{FactsIn}
 use Rattle.formula.proofs.Counts.{fits_iff}
-use Rattle.making.specs.declared.Making.{Making}
 use Rattle.making.specs.Work.{Made, over, live, no_outline}
 use Rattle.making.specs.Build.{build}
-use Rattle.making.specs.Run.{Bench, bench, run, first_bench, making_of}
+use Rattle.making.specs.Run.{Bench, bench, run, first_bench, Making, making_of}
 use Rattle.making.proofs.Runs.{run-code}
 use Rattle.making.proofs.Live.{FitsF, yes}
 use Rattle.making.proofs.Limits.{Small, decide}

@@ -15,9 +15,8 @@ use Rattle.aldlf.specs.declared.Table.{Table}
 use Rattle.packing.specs.Numbers.{edge_in}
 use Rattle.making.specs.declared.stack.Kept.{Kept}
 use Rattle.making.specs.declared.counts.Counts.{Counts}
-use Rattle.making.specs.declared.Making.{Making}
 use Rattle.making.specs.Work.{Outline, Made, over, live, grown}
-use Rattle.making.specs.Run.{Bench, bench, makes_node, node_on, keeps, kept_on, begun_on, draws, drawn_on, ends_path, emitted_on, exec_on, exec, run, first_bench, making_of}
+use Rattle.making.specs.Run.{Bench, bench, makes_node, node_on, keeps, kept_on, begun_on, draws, drawn_on, ends_path, emitted_on, exec_on, exec, run, first_bench, Making, making_of}
 use Rattle.making.specs.Numbers.{kept_of, lines_in, edges_in, table_in, outline_in, made_of, work_in, bench_in, no_counts, Sized, Lined, NodeMade, KeptMore, PathDrawn, PathEnded}
 use Rattle.making.proofs.Links.{absurd_bool}
 use Rattle.making.proofs.Lines.{bench_same}

@@ -1,12 +1,12 @@
 -- Instructions run one after the other: what each does to what is made and to what is kept.
-use Rattle.std.specs.Prelude.{ℕ, Bool, true, false, cond, ◌||◌, List, [], ◌∷◌, eqb, ltb}
+use Rattle.std.specs.Prelude.{ℕ, Option, Some, None, Bool, true, false, cond, ◌||◌, List, [], ◌∷◌, eqb, ltb}
 use Rattle.aldlf.specs.Constants.{fact_limit, letter_t, letter_p, letter_n, letter_a, letter_o, letter_d, letter_b}
 use Rattle.aldlf.specs.Sheet.{ahead, back, stay}
+use Rattle.aldlf.specs.declared.Table.{Table}
 use Rattle.sheet.specs.Questions.{empty_table}
 use Rattle.formula.specs.Numbering.{first_table, dir_number}
 use Rattle.formula.specs.Code.{code_true, code_keep, code_and, code_or, code_not, code_apply, code_begin, code_some, code_every, code_step, code_keep_part, code_seq, code_alt, code_many}
 use Rattle.making.specs.declared.stack.Kept.{Kept}
-use Rattle.making.specs.declared.Making.{Making}
 use Rattle.making.specs.Work.{Made, over, live, no_outline, grown, newest_of, automaton_of, under, no_kept, node_kept, mark_kept, part_of, frame_of, begun, step_drawn, seq_drawn, alt_drawn, star_drawn, emitted}
 
 -- What is made, and what is kept for later, the last one first.
@@ -115,6 +115,16 @@ run (k ∷ ks) b = run ks (exec k b)
 -- Node 0 is T, and nothing is kept.
 abbrev pub first_bench : Bench
 first_bench = record { made = live first_table no_outline; stack = [] }
+
+-- An outcome: a table that fits a sheet; or that a limit is passed, and then a table all zeros.
+pub record Making : Type 0 where
+  pub fits : Bool
+  pub table : Table
+
+-- What the code's answer stands for: nothing where a limit is passed.
+abbrev pub making_by : Option Table → Making
+making_by None = record { fits = false; table = empty_table }
+making_by (Some t) = record { fits = true; table = t }
 
 -- What the instructions come to: the table, or that a limit is passed.
 unfoldable pub making_of : Made → Making

@@ -6,7 +6,8 @@ use aldlf::State;
 
 // `links` edges of open paths, outer ones first, of which `base` belong to outer paths; `states` of the path in hand, and where its part made last starts and ends.
 // `top` numbers are on the stack. `over`: a sheet limit is passed, and the rest means nothing.
-#[derive(Clone, Copy)]
+// A field and no option of counts: `work_in`, `Lined`, `Drawn` and `PathEnded` of specs/Numbers.antt speak of it.
+#[derive(Clone, Copy, Default)]
 pub(crate) struct Counts {
     pub(crate) nodes: u8,
     pub(crate) automata: u8,
@@ -20,42 +21,37 @@ pub(crate) struct Counts {
     pub(crate) over: bool,
 }
 
-// A limit is passed.
-pub(crate) fn killed(c: Counts) -> Counts
-    ensures { result ≡ killed_in c }
-{
-    let mut x = c;
-    x.over = true;
-    x
-}
-
-// The path in hand with its states, and the ends of the part made last.
-pub(crate) fn with_ends(c: Counts, states: u8, entry: State, exit: State) -> Counts
-    ensures { result ≡ ended_in states entry exit c }
-{
-    let mut x = c;
-    x.states = states;
-    x.entry = entry;
-    x.exit = exit;
-    x
-}
-
-// The same counts with another number on the stack.
-pub(crate) fn with_top(c: Counts, top: usize) -> Counts
-    ensures { result ≡ topped_in top c }
-{
-    let mut x = c;
-    x.top = top;
-    x
-}
-
-// The last node.
-pub(crate) fn newest(c: Counts) -> u8
-    ensures { result ≡ c.nodes - 1 }
-{
-    let n = c.nodes;
-    if n == 0 {
-        return 0;
+impl Counts {
+    // A limit is passed.
+    pub(crate) fn killed(self) -> Counts
+        ensures { result ≡ killed_in self }
+    {
+        Counts { over: true, ..self }
     }
-    n - 1
+
+    // The path in hand with its states, and the ends of the part made last.
+    pub(crate) fn with_ends(self, states: u8, entry: State, exit: State) -> Counts
+        ensures { result ≡ ended_in states entry exit self }
+    {
+        Counts {
+            states,
+            entry,
+            exit,
+            ..self
+        }
+    }
+
+    // The same counts with another number on the stack.
+    pub(crate) fn with_top(self, top: usize) -> Counts
+        ensures { result ≡ topped_in top self }
+    {
+        Counts { top, ..self }
+    }
+
+    // The last node.
+    pub(crate) fn newest(self) -> u8
+        ensures { result ≡ self.nodes - 1 }
+    {
+        self.nodes.saturating_sub(1)
+    }
 }

@@ -6,7 +6,7 @@ ghost use Rattle.making.specs.Work.{linked, four_linked, between, step_drawn, se
 ghost use Rattle.making.specs.Run.{is_step, draws, dir_of, drawn_on};
 ghost use Rattle.making.specs.Numbers.{Sized, Drawn, PathDrawn};
 
-use super::counts::{Counts, killed, newest, with_ends, with_top};
+use super::counts::Counts;
 use super::keeping::link_room;
 use super::stack::{Kept, below, last_kept};
 use aldlf::{Edge, Node, State};
@@ -16,27 +16,25 @@ use packing::pieces::packed_edge;
 fn is_step(op: u8) -> bool
     ensures { result ≡ is_step op }
 {
-    (op == b'a') | (op == b'b') | (op == b't')
+    matches!(op, b'a' | b'b' | b't')
 }
 
 // Whether an instruction draws the path in hand.
 pub(crate) fn draws_path(op: u8) -> bool
     ensures { result ≡ draws op }
 {
-    is_step(op) | (op == b'*') | (op == b';') | (op == b'+')
+    is_step(op) || matches!(op, b'*' | b';' | b'+')
 }
 
 // The direction of a step, as the table has it.
 fn dir_of(op: u8) -> u8
     ensures { result ≡ dir_of op }
 {
-    if op == b'a' {
-        return 1;
+    match op {
+        b'a' => 1,
+        b'b' => 2,
+        _ => 0,
     }
-    if op == b'b' {
-        return 2;
-    }
-    0
 }
 
 // An edge that only joins: a test of node 0, which is T.
@@ -59,11 +57,12 @@ fn put_link(links: &mut [u32; aldlf::EDGES], c: Counts, e: Edge) -> Counts
     if link_room(c) {
         let n = c.links as usize;
         links[n] = packed_edge(e);
-        let mut x = c;
-        x.links = c.links + 1;
-        return x;
+        return Counts {
+            links: c.links + 1,
+            ..c
+        };
     }
-    killed(c)
+    c.killed()
 }
 
 // Four links, in the order in which they are put.
@@ -84,7 +83,7 @@ fn put_four(links: &mut [u32; aldlf::EDGES], c: Counts, four: Four, s: u8) -> Co
     let y = put_link(links, x, four.f);
     let z = put_link(links, y, four.g);
     let w = put_link(links, z, four.h);
-    with_ends(w, s + 2, State(s), State(s + 1))
+    w.with_ends(s + 2, State(s), State(s + 1))
 }
 
 // A step: two states, and one edge that tests the last node.
@@ -97,13 +96,13 @@ fn step(links: &mut [u32; aldlf::EDGES], c: Counts, dir: u8) -> Counts
         let e = Edge {
             from: State(s),
             dir,
-            test: Node(newest(c)),
+            test: Node(c.newest()),
             to: State(s + 1),
         };
         let x = put_link(links, c, e);
-        return with_ends(x, s + 2, State(s), State(s + 1));
+        return x.with_ends(s + 2, State(s), State(s + 1));
     }
-    killed(c)
+    c.killed()
 }
 
 // `;`: the end of the left side is joined to the start of the part made last.
@@ -113,7 +112,7 @@ fn seq(links: &mut [u32; aldlf::EDGES], c: Counts, left: Kept) -> Counts
 {
     let e = link_of(State(left.b), c.entry);
     let x = put_link(links, c, e);
-    with_ends(x, c.states, State(left.a), c.exit)
+    x.with_ends(c.states, State(left.a), c.exit)
 }
 
 // `+`: a new start before both sides, a new end behind both.
@@ -131,7 +130,7 @@ fn alt(links: &mut [u32; aldlf::EDGES], c: Counts, left: Kept) -> Counts
         let h = link_of(c.exit, end);
         return put_four(links, c, Four { e, f, g, h }, s);
     }
-    killed(c)
+    c.killed()
 }
 
 // `*`: a new start before the part and a new end behind it, from the part's end back to its start, and past it.
@@ -149,7 +148,7 @@ fn star(links: &mut [u32; aldlf::EDGES], c: Counts) -> Counts
         let h = link_of(start, end);
         return put_four(links, c, Four { e, f, g, h }, s);
     }
-    killed(c)
+    c.killed()
 }
 
 // An instruction that draws the path in hand.
@@ -165,7 +164,7 @@ pub(crate) fn draw(op: u8, stack: &[u32], links: &mut [u32; aldlf::EDGES], c: Co
     }
     let top = c.top;
     let left = last_kept(stack, top);
-    let d = with_top(c, below(top));
+    let d = c.with_top(below(top));
     if op == b';' {
         return seq(links, d, left);
     }

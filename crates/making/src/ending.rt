@@ -5,7 +5,7 @@ ghost use Rattle.aldlf.specs.Constants.{edge_limit};
 ghost use Rattle.making.specs.Run.{ends_path, letter_of, emitted_on};
 ghost use Rattle.making.specs.Numbers.{Sized, room_in, automaton_in, resumed_in, PathEnded};
 
-use super::counts::{Counts, killed};
+use super::counts::Counts;
 use super::stack::{Kept, below, last_kept, push};
 use aldlf::{Automaton, State};
 use sheet::build::power;
@@ -15,17 +15,14 @@ use sheet::empty::no_automaton;
 pub(crate) fn ends_path(op: u8) -> bool
     ensures { result ≡ ends_path op }
 {
-    (op == b'>') | (op == b']')
+    matches!(op, b'>' | b']')
 }
 
 // The letter of a path's mark.
 fn letter_of(op: u8) -> u8
     ensures { result ≡ letter_of op }
 {
-    if op == b'>' {
-        return b'D';
-    }
-    b'B'
+    if op == b'>' { b'D' } else { b'B' }
 }
 
 // Whether the path in hand can end: there is room for an automaton, and its end and its base are in range.
@@ -42,12 +39,10 @@ fn automaton_of(c: Counts) -> Automaton
     requires { room_in c ≡ true }
     ensures { result ≡ automaton_in c }
 {
-    let p = power(c.exit.0 as u16);
-    let start = c.entry;
     Automaton {
         states: c.states,
-        start,
-        accepting: p,
+        start: c.entry,
+        accepting: power(c.exit.0 as u16),
         first: c.edges,
         count: c.links - c.base as u16,
         before: c.nodes,
@@ -65,11 +60,7 @@ fn move_links(
     requires { (first + n ≤ edge_limit) × (base + n ≤ edge_limit) × (length links.now ≡ edge_limit) }
     ensures { edges.new ≡ sets edges.old first (take n (drop base links.now)) }
 {
-    let mut i: usize = 0;
-    while i < n {
-        edges[first + i] = links[base + i];
-        i += 1;
-    }
+    edges[first..first + n].copy_from_slice(&links[base..base + n]);
 }
 
 // The counts behind the path's end: the outer path is in hand again, as it was put aside.
@@ -77,18 +68,17 @@ fn resumed(c: Counts, frame: Kept, top: usize) -> Counts
     requires { (room_in c ≡ true) × Sized c }
     ensures { result ≡ resumed_in frame top c }
 {
-    let entry = State(frame.a);
-    let exit = State(frame.b);
-    let mut x = c;
-    x.automata = c.automata + 1;
-    x.edges = c.edges + (c.links - c.base as u16);
-    x.links = c.base as u16;
-    x.states = frame.c;
-    x.base = frame.d;
-    x.entry = entry;
-    x.exit = exit;
-    x.top = top;
-    x
+    Counts {
+        automata: c.automata + 1,
+        edges: c.edges + (c.links - c.base as u16),
+        links: c.base as u16,
+        states: frame.c,
+        base: frame.d,
+        entry: State(frame.a),
+        exit: State(frame.b),
+        top,
+        ..c
+    }
 }
 
 // The counts, and the automaton to be put at its place.
@@ -132,7 +122,7 @@ pub(crate) fn end_path(
         let counts = resumed(c, frame, rest + 1);
         return Ended { counts, automaton };
     }
-    let counts = killed(c);
+    let counts = c.killed();
     let automaton = no_automaton();
     Ended { counts, automaton }
 }

@@ -7,7 +7,7 @@ ghost use Rattle.aldlf.specs.declared.Edge.{Edge};
 ghost use Rattle.making.specs.Run.{keeps, kept_by, kept_on, begun_on};
 ghost use Rattle.making.specs.Numbers.{work_in, Sized, KeptMore};
 
-use super::counts::{Counts, killed, newest, with_top};
+use super::counts::Counts;
 use super::stack::{Kept, push};
 use aldlf::State;
 
@@ -15,7 +15,7 @@ use aldlf::State;
 pub(crate) fn keeps_something(op: u8) -> bool
     ensures { result ≡ keeps op }
 {
-    (op == b',') | (op == b'!') | (op == b':')
+    matches!(op, b',' | b'!' | b':')
 }
 
 // What `,`, `!` and `:` keep: the last node, a negation, the last part of the path.
@@ -23,27 +23,25 @@ fn kept_by(op: u8, c: Counts) -> Kept
     requires { c.over ≡ false }
     ensures { (ns : List NodeLine) (ms : List Automaton) (es ks : List Edge) → result ≡ kept_by op (work_in c ns ms es ks) }
 {
-    if op == b',' {
-        return Kept {
-            a: newest(c),
+    match op {
+        b',' => Kept {
+            a: c.newest(),
             b: 0,
             c: 0,
             d: 0,
-        };
-    }
-    if op == b'!' {
-        return Kept {
+        },
+        b'!' => Kept {
             a: b'N',
             b: 0,
             c: 0,
             d: 0,
-        };
-    }
-    Kept {
-        a: c.entry.0,
-        b: c.exit.0,
-        c: 0,
-        d: 0,
+        },
+        _ => Kept {
+            a: c.entry.0,
+            b: c.exit.0,
+            c: 0,
+            d: 0,
+        },
     }
 }
 
@@ -55,7 +53,7 @@ pub(crate) fn keep(op: u8, stack: &mut [u32], c: Counts) -> Counts
     let top = c.top;
     let k = kept_by(op, c);
     push(stack, top, k);
-    with_top(c, top + 1)
+    c.with_top(top + 1)
 }
 
 // Whether there is room for an edge: the table's edges and all open links count.
@@ -80,14 +78,14 @@ pub(crate) fn begin(stack: &mut [u32], c: Counts) -> Counts
             d: c.base,
         };
         push(stack, top, frame);
-        let z = State(0);
-        let mut x = c;
-        x.states = 0;
-        x.base = c.links as u8;
-        x.entry = z;
-        x.exit = z;
-        x.top = top + 1;
-        return x;
+        return Counts {
+            states: 0,
+            base: c.links as u8,
+            entry: State(0),
+            exit: State(0),
+            top: top + 1,
+            ..c
+        };
     }
-    killed(c)
+    c.killed()
 }

@@ -10,7 +10,7 @@ mod running;
 mod stack;
 
 ghost use Rattle.std.specs.Prelude.{◌≡◌, ◌≤◌, length};
-ghost use Rattle.making.specs.Run.{run, first_bench, making_of};
+ghost use Rattle.making.specs.Run.{run, first_bench, making_of, making_by};
 
 use aldlf::Table;
 use running::run_code;
@@ -21,38 +21,24 @@ const SHORT: usize = 256;
 // There are at most so many instructions.
 const LONG: usize = 8192;
 
-// What the instructions come to: the table of the sheet, or that a sheet limit is passed, and then a table all zeros.
-#[derive(Clone, Copy)]
-pub struct Making {
-    pub fits: bool,
-    pub table: Table,
-}
-
-// The instructions run one after the other. A short formula clears no large stack.
-pub fn make_table(code: &[u8]) -> Making
+// The instructions run one after the other: the table of the sheet, or nothing where a sheet limit is passed. A short list of
+// instructions clears no large stack.
+pub fn make_table(code: &[u8]) -> Option<Table>
     requires { length code.now ≤ 8192 }
-    ensures { result ≡ making_of (run code.now first_bench).made }
+    ensures { making_by result ≡ making_of (run code.now first_bench).made }
 {
     if code.len() <= SHORT {
-        return make_short(code);
+        make_on::<SHORT>(code)
+    } else {
+        make_on::<LONG>(code)
     }
-    make_long(code)
 }
 
-// The same of a few instructions, on a small stack.
-fn make_short(code: &[u8]) -> Making
-    requires { length code.now ≤ 256 }
-    ensures { result ≡ making_of (run code.now first_bench).made }
+// The same on a stack of so many places.
+fn make_on<const N: usize>(code: &[u8]) -> Option<Table>
+    requires { (length code.now ≤ N) × (N ≤ 8192) }
+    ensures { making_by result ≡ making_of (run code.now first_bench).made }
 {
-    let mut stack = [0u32; SHORT];
-    run_code(code, &mut stack[..])
-}
-
-// The same of many.
-fn make_long(code: &[u8]) -> Making
-    requires { length code.now ≤ 8192 }
-    ensures { result ≡ making_of (run code.now first_bench).made }
-{
-    let mut stack = [0u32; LONG];
-    run_code(code, &mut stack[..])
+    let mut stack = [0u32; N];
+    run_code(code, &mut stack)
 }

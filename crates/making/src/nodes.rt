@@ -4,7 +4,7 @@ ghost use Rattle.making.specs.Work.{grown, under};
 ghost use Rattle.making.specs.Run.{makes_node, node_on};
 ghost use Rattle.making.specs.Numbers.{Lined, NodeMade};
 
-use super::counts::{Counts, killed, newest, with_top};
+use super::counts::Counts;
 use super::stack::{Kept, below, last_kept};
 use aldlf::{Node, NodeLine};
 use packing::pieces::packed_line;
@@ -13,7 +13,7 @@ use packing::pieces::packed_line;
 pub(crate) fn makes_node(op: u8) -> bool
     ensures { result ≡ makes_node op }
 {
-    (op < 32) | (op == b'T') | (op == b'&') | (op == b'|') | (op == b'.')
+    matches!(op, 0..=31 | b'T' | b'&' | b'|' | b'.')
 }
 
 // One node line more, where there is room.
@@ -23,11 +23,12 @@ pub(crate) fn put_line(lines: &mut [u32; aldlf::NODES], c: Counts, x: NodeLine) 
     let n = c.nodes as usize;
     if n < aldlf::NODES {
         lines[n] = packed_line(x);
-        let mut y = c;
-        y.nodes = c.nodes + 1;
-        return y;
+        return Counts {
+            nodes: c.nodes + 1,
+            ..c
+        };
     }
-    killed(c)
+    c.killed()
 }
 
 // The node of a fact, or of `true`.
@@ -48,7 +49,7 @@ fn put_pair(lines: &mut [u32; aldlf::NODES], c: Counts, kind: u8, a: u8, b: Node
 fn put_under(lines: &mut [u32; aldlf::NODES], c: Counts, k: Kept) -> Counts
     ensures { Lined (under k.a k.b) c result lines.old lines.new }
 {
-    let n = newest(c);
+    let n = c.newest();
     if k.a == b'N' {
         return put_leaf(lines, c, k.a, n);
     }
@@ -68,8 +69,8 @@ pub(crate) fn make_node(op: u8, stack: &[u32], lines: &mut [u32; aldlf::NODES], 
     }
     let top = c.top;
     let k = last_kept(stack, top);
-    let d = with_top(c, below(top));
-    let n = Node(newest(c));
+    let d = c.with_top(below(top));
+    let n = Node(c.newest());
     if op == b'&' {
         return put_pair(lines, d, b'A', k.a, n);
     }

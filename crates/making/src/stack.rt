@@ -53,18 +53,12 @@ pub(crate) fn last_kept(stack: &[u32], top: usize) -> Kept
     requires { top ≤ length stack.now }
     ensures { result ≡ last_of (kept_of stack.now top) }
 {
-    if top == 0 {
-        return kept_in(0);
-    }
-    kept_in(stack[top - 1])
+    kept_in(stack[..top].last().copied().unwrap_or(0))
 }
 
 // How many are left without that one.
 pub(crate) fn below(top: usize) -> usize
     ensures { ((xs : List ℕ) → kept_of xs result ≡ rest_of (kept_of xs top)) × (result ≤ top) }
 {
-    if top == 0 {
-        return 0;
-    }
-    top - 1
+    top.saturating_sub(1)
 }

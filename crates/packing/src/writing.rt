@@ -14,49 +14,37 @@ pub fn pack(table: Table, numbers: &mut [u32])
     requires { length numbers.old ≡ places }
     ensures { Packed table numbers.new }
 {
-    let nodes = table.nodes;
-    let automata = table.automata;
-    let edges = table.edges;
-    let used = table.used;
-    put_edges(edges, numbers);
-    put_lines(nodes, numbers);
-    put_automata(automata, numbers);
-    put_used(used, numbers);
+    put_edges(&table.edges, numbers);
+    put_lines(&table.nodes, numbers);
+    put_automata(&table.automata, numbers);
+    put_used(table.used, numbers);
 }
 
-fn put_edges(edges: [Edge; aldlf::EDGES], numbers: &mut [u32])
+// Two loops alike, for edges and for node lines: a trait for what packs into one number is longer than the loop that it would save.
+fn put_edges(edges: &[Edge; aldlf::EDGES], numbers: &mut [u32])
     requires { length numbers.old ≡ places }
-    ensures { Put (λ (e p : ℕ). edge_in p ≡ get_or edges e no_edge) 0 edge_limit numbers.old numbers.new }
+    ensures { Put (λ (e p : ℕ). edge_in p ≡ get_or edges.now e no_edge) 0 edge_limit numbers.old numbers.new }
 {
-    let mut e: usize = 0;
-    while e < aldlf::EDGES {
-        let x = edges[e];
-        numbers[e] = packed_edge(x);
-        e += 1;
+    for (e, x) in edges.iter().enumerate() {
+        numbers[e] = packed_edge(*x);
     }
 }
 
-fn put_lines(nodes: [NodeLine; aldlf::NODES], numbers: &mut [u32])
+fn put_lines(nodes: &[NodeLine; aldlf::NODES], numbers: &mut [u32])
     requires { length numbers.old ≡ places }
-    ensures { Put (λ (k p : ℕ). line_in p ≡ get_or nodes k no_line) lines_place node_limit numbers.old numbers.new }
+    ensures { Put (λ (k p : ℕ). line_in p ≡ get_or nodes.now k no_line) lines_place node_limit numbers.old numbers.new }
 {
-    let mut k: usize = 0;
-    while k < aldlf::NODES {
-        let x = nodes[k];
-        numbers[LINES + k] = packed_line(x);
-        k += 1;
+    for (k, x) in nodes.iter().enumerate() {
+        numbers[LINES + k] = packed_line(*x);
     }
 }
 
-fn put_automata(automata: [Automaton; aldlf::AUTOMATA], numbers: &mut [u32])
+fn put_automata(automata: &[Automaton; aldlf::AUTOMATA], numbers: &mut [u32])
     requires { length numbers.old ≡ places }
-    ensures { HeadsPut automata automaton_limit numbers.old numbers.new }
+    ensures { HeadsPut automata.now automaton_limit numbers.old numbers.new }
 {
-    let mut m: usize = 0;
-    while m < aldlf::AUTOMATA {
-        let x = automata[m];
-        put_automaton(x, m, numbers);
-        m += 1;
+    for (m, x) in automata.iter().enumerate() {
+        put_automaton(*x, m, numbers);
     }
 }
 

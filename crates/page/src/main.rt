@@ -12,12 +12,9 @@ const ROOM: usize = text::BYTES + 1;
 fn main(rt: HostRuntime) -> ExitCode {
     let mut rules = [0u8; ROOM];
     let mut steps = [0u8; ROOM];
-    let texts = read_two(&rt, b"rules.txt", &mut rules, b"steps.txt", &mut steps);
-    let n = texts.first;
-    let m = texts.second;
-    if !texts.read {
+    let Some((n, m)) = read_two(&rt, b"rules.txt", &mut rules, b"steps.txt", &mut steps) else {
         return ExitCode::FAILURE;
-    }
+    };
     match print_page(&rt, &rules[..n], &steps[..m]) {
         Ok(()) => ExitCode::SUCCESS,
         Err(e) => {
@@ -27,10 +24,9 @@ fn main(rt: HostRuntime) -> ExitCode {
     }
 }
 
-// Prints the page. No page is longer than `out`.
+// Prints the page. No page is longer than `out`, so that none is refused.
 fn print_page(rt: &impl Print, rules: &[u8], steps: &[u8]) -> io::Result<()> {
     let mut out = [0u8; report::BYTES];
-    let p = report::page(rules, steps, &mut out);
-    let n = p.bytes;
+    let n = report::page(rules, steps, &mut out).unwrap();
     rt.write_all(&out[..n])
 }

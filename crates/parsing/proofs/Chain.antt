@@ -14,7 +14,7 @@ use Rattle.formula.specs.Parse.{Got, ok, bad, deep, Inner, Held, nothing, held, 
 use Rattle.formula.specs.Code.{code_keep, code_and, code_or, code_not, code_begin, code_some, code_every, code_step, code_keep_part, code_seq, code_alt}
 use Rattle.parsing.specs.Work.{Work, put, put_if, masked, ended}
 use Rattle.parsing.specs.Work as work
-use Rattle.parsing.specs.Build.{build, build_in, Seen, got_of, Next, goes, stops, pick_next, followed, end_of, opened, simple_at, stepped_by}
+use Rattle.parsing.specs.Build.{build, build_in, Seen, got_of, Next, goes, stops, followed, end_of, opened, simple_at, stepped_by}
 use Rattle.formula.proofs.Bytes.{byte_there}
 use Rattle.parsing.proofs.Laws.{fuel_down, got_ok, got_fail, map_closed}
 
@@ -170,15 +170,6 @@ seq_law y x w = refl
 pub alt_law : (y x : Path) (w : Work) → put code_alt (build_in x (put code_keep_part (build_in y w))) ≡ build_in (alt y x) w
 unfolding build
 alt_law y x w = refl
-
--- by a code's flag
-pub picked_stop : (P : Next → Type 0) (m o a : Bool) (w : Work) → m ≡ false → P (pick_next m o a w) → P (stops w)
-picked_stop P false o a w e p = p
-picked_stop P true o a w e p = no cc
-
-pub picked_go : (P : Next → Type 0) (m o a : Bool) (w : Work) → m ≡ true → P (pick_next m o a w) → P (goes o a w)
-picked_go P true o a w e p = p
-picked_go P false o a w e p = no cc
 
 -- behind a mark
 pub inner_none : (text : List ℕ) (d : ℕ) → d ≡ 0 → inner text d ≡ record { formula = λ at. deep at; path = λ at. deep at }

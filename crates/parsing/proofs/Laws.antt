@@ -5,18 +5,24 @@ use mathlib.Core.List.{List}
 use mathlib.Core.Bool.{Bool, true, false, not, cond, ◌&&◌, ◌||◌}
 use mathlib.Core.Logic.{◌⊎◌, inl, inr}
 use native.Mathlib.Omega.{arith}
-use lib.ListN.{length}
-use lib.Dec.{eqb, leb}
-use borrow.Author.Tests.{eq-eqb, ne_eqb, leb-true, eqb-true, not-true, not-false}
+use lib.ListN.{length, get_or, get_or-eq_default}
+use Rattle.std.proofs.lemmas.List.{get_or_default}
+use lib.Dec.{eqb, leb, ltb}
+use borrow.Author.Tests.{eq-eqb, ne_eqb, leb-true, eqb-true, eqb-false, ltb-true, ltb-false, not-true, not-false}
 use Rattle.aldlf.proofs.Bools.{and_left, and_right}
 use Rattle.text.specs.Text.{is_digit}
+use Rattle.std.specs.Prelude.{Result, Ok, Err, Option, Some, None}
+use Rattle.std.specs.Option.{unwrap_or, option_eq}
+use Rattle.parsing.specs.declared.answers.Parsed.{Parsed}
+use Rattle.parsing.specs.declared.answers.ParseError.{ParseError}
+use Rattle.parsing.specs.declared.answers.ParseError.TheVariants.{NoFormula, TooDeep}
 use Rattle.aldlf.specs.Sheet.{ahead, back, stay}
 use Rattle.formula.specs.Formula.{Formula, Path, many}
 use Rattle.formula.specs.Parse.{Got, ok, bad, deep, map_got, byte, closed, true_at, fact_at, is_pair, starred_from, starred}
-use Rattle.formula.proofs.Bytes.{byte_there}
+use Rattle.formula.proofs.Bytes.{byte_there, byte_in, byte_out}
 use Rattle.formula.specs.Code.{code_true, code_many, code_step, code_some, code_every}
 use Rattle.parsing.specs.Work.{Work, put, put_if, stepped}
-use Rattle.parsing.specs.Build.{build, build_in, Seen, got_of, goes, stops, followed, end_of, fact_by, simple_at, stepped_by, stars_by, stars_on}
+use Rattle.parsing.specs.Build.{build, build_in, Seen, seen_of, got_of, goes, stops, followed, end_of, fact_by, simple_at, stepped_by, stars_by, stars_on}
 
 -- a place within the text leaves something to read
 pub fuel_down : (text : List ℕ) (n at : ℕ) → at < length text → length text ≤ at + n → (m : ℕ) × (n ≡ suc m)
@@ -36,6 +42,17 @@ got_fail p ne = rw (ne_eqb p.number 0 ne) (go (eqb p.number 51))
     go true = inl refl
     go false = inr refl
 
+-- an error is no success
+pub lost : (e : ParseError) (out : List ℕ) → ¬ ((seen_of (Err e) out).number ≡ 0)
+lost (NoFormula at) out h = absurd (omega arith)
+lost (TooDeep at) out h = absurd (omega arith)
+
+-- the place does not rest on what was written
+pub place_same : (p : Result Parsed ParseError) (out out' : List ℕ) → (seen_of p out).at ≡ (seen_of p out').at
+place_same (Ok p) out out' = refl
+place_same (Err (NoFormula at)) out out' = refl
+place_same (Err (TooDeep at)) out out' = refl
+
 -- an answer that is no success stands as it is under whatever keeps failures
 pub fails_as : (p : Seen) (f : Got Work → Got Work) → ¬ (p.number ≡ 0) → ((at : ℕ) → f (bad at) ≡ bad at) → ((at : ℕ) → f (deep at) ≡ deep at) → got_of p ≡ f (got_of p)
 fails_as p f ne hb hd = go (got_fail p ne)
@@ -43,6 +60,29 @@ fails_as p f ne hb hd = go (got_fail p ne)
     go : (got_of p ≡ bad p.at) ⊎ (got_of p ≡ deep p.at) → got_of p ≡ f (got_of p)
     go (inl e) = e ∙ sym (hb p.at) ∙ ap f (sym e)
     go (inr e) = e ∙ sym (hd p.at) ∙ ap f (sym e)
+
+-- a byte that is there, or is not: x is what definitions say of it
+pub is_there : {r : Bool} (o : Option ℕ) (x v : ℕ) → unwrap_or o 256 ≡ x → r ≡ option_eq eqb o (Some v) → r ≡ true → x ≡ v
+is_there None x v e h t = absurd (let z : false ≡ true = sym h ∙ t in let y : ◌≡◌ {A = ℕ} 0 1 = cc in omega arith)
+is_there (Some u) x v e h t = sym e ∙ eqb-true u v (sym h ∙ t)
+
+pub is_there_ne : {r : Bool} (o : Option ℕ) (x v : ℕ) → unwrap_or o 256 ≡ x → r ≡ not (option_eq eqb o (Some v)) → r ≡ false → x ≡ v
+is_there_ne o x v e h t = is_there o x v e refl (not-false (option_eq eqb o (Some v)) (sym h ∙ t))
+
+pub not_there : {r : Bool} (o : Option ℕ) (x v : ℕ) → v < 256 → unwrap_or o 256 ≡ x → r ≡ option_eq eqb o (Some v) → r ≡ false → ¬ (x ≡ v)
+not_there None x v l e h t k = absurd (omega arith)
+not_there (Some u) x v l e h t k = eqb-false u v (sym h ∙ t) (e ∙ k)
+
+pub not_there_ne : {r : Bool} (o : Option ℕ) (x v : ℕ) → v < 256 → unwrap_or o 256 ≡ x → r ≡ not (option_eq eqb o (Some v)) → r ≡ true → ¬ (x ≡ v)
+not_there_ne o x v l e h t = not_there o x v l e refl (not-true (option_eq eqb o (Some v)) (sym h ∙ t))
+
+-- the byte at a place, or 256
+pub byte_or : (text : List ℕ) (at : ℕ) → get_or text at 256 ≡ byte text at
+byte_or text at = go (ltb at (length text)) refl
+  where
+    go : (y : Bool) → ltb at (length text) ≡ y → get_or text at 256 ≡ byte text at
+    go true e = let l = ltb-true at (length text) e in get_or_default text at 256 0 l ∙ sym (byte_in text at l)
+    go false e = let l = ltb-false at (length text) e in get_or-eq_default text 256 l ∙ sym (byte_out text at l)
 
 module _ (text : List ℕ) where
   pub close_off : (b : ℕ) (p : Seen) → ¬ (p.number ≡ 0) → got_of p ≡ closed text b (got_of p)

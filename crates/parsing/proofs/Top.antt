@@ -14,20 +14,23 @@ use Rattle.formula.specs.Outcome.{steps_plain}
 use Rattle.formula.specs.Code.{code}
 use Rattle.formula.proofs.Coding.{code_short}
 use Rattle.formula.proofs.Places.{read_iff}
+use Rattle.std.specs.Prelude.{Err}
+use Rattle.parsing.specs.declared.answers.ParseError.{ParseError}
+use Rattle.parsing.specs.declared.answers.ParseError.TheVariants.{NoFormula, TooDeep}
 use Rattle.parsing.specs.Work.{Work, is_set}
-use Rattle.parsing.specs.Build.{build, Seen, got_of}
+use Rattle.parsing.specs.Build.{build, Seen, seen_of, got_of}
 use Rattle.parsing.specs.Written.{code_limit, coded, refused, coded_by, text_code, finished}
 use Rattle.parsing.proofs.Laws.{got_ok}
 use Rattle.parsing.proofs.Bytes.{stray-build, bytes_build}
 
--- by the parser's number
-pub finish_bad : (n : ℕ) (p : Seen) → p.number ≡ 51 → refused 51 p.at ≡ finished n (got_of p)
+-- by what the parser answers
+pub finish_bad : (n : ℕ) (out : List ℕ) {e : ParseError} {at : ℕ} → e ≡ NoFormula at → refused 51 at ≡ finished n (got_of (seen_of (Err e) out))
 unfolding finished got_of
-finish_bad n p e = rw e
+finish_bad n out h = rw h
 
-pub finish_deep : (n : ℕ) (p : Seen) → ¬ (p.number ≡ 51) → ¬ (p.number ≡ 0) → refused 52 0 ≡ finished n (got_of p)
+pub finish_deep : (n : ℕ) (out : List ℕ) {e : ParseError} {at : ℕ} → e ≡ TooDeep at → refused 52 0 ≡ finished n (got_of (seen_of (Err e) out))
 unfolding finished got_of
-finish_deep n p e f = rw (ne_eqb p.number 0 f, ne_eqb p.number 51 e)
+finish_deep n out h = rw h
 
 pub finish_left : (n : ℕ) (p : Seen) → p.number ≡ 0 → ¬ (p.at ≡ n) → refused 51 p.at ≡ finished n (got_of p)
 unfolding finished
@@ -40,9 +43,6 @@ finish_stray n p e f h = rw (got_ok p e, eq-eqb p.at n f, h)
 pub finish_all : (n : ℕ) (p : Seen) → p.number ≡ 0 → p.at ≡ n → p.work.stray ≡ false → coded p.work.bytes ≡ finished n (got_of p)
 unfolding finished
 finish_all n p e f h = rw (got_ok p e, eq-eqb p.at n f, h)
-
-pub refused_is : (n p : ℕ) (xs : List ℕ) → 0 < n → cond (eqb n 0) (coded xs) (refused n p) ≡ refused n p
-refused_is n p xs l = rw (ne_eqb n 0 (λ e. omega arith))
 
 -- a mark that is kept as a number
 pub set_is : {n : ℕ} → ¬ (n ≡ 0) → is_set n ≡ true

@@ -9,10 +9,13 @@ use Rattle.formula.specs.Formula.{Formula, both, either, Path, seq, alt}
 use Rattle.formula.specs.Code.{code_keep, code_and, code_or, code_keep_part, code_seq, code_alt}
 use Rattle.formula.specs.Parse.{Got, ok, Inner, Prefix, map_got, is_prefix, byte, operand_at, piece_at, starred_at, prefix_at, outside, inner}
 use Rattle.parsing.specs.declared.parse.Next as next
+use Rattle.parsing.specs.declared.parse.Next.TheVariants.{Goes, Stops}
+use Rattle.parsing.specs.declared.parse.Waiting.{Waiting}
+use Rattle.parsing.specs.declared.writing.Writing.{Writing}
 use Rattle.parsing.specs.Work.{Work, work_of}
 use Rattle.parsing.specs.Build.{build, build_in, Seen, got_of, next_of, followed, opened, stars_on}
 use Rattle.parsing.proofs.Laws.{map_starred}
-use Rattle.parsing.proofs.Chain.{Stands, chain_starts, chain_fails, chain_goes, Outcome, both_law, either_law, seq_law, alt_law, picked_stop, picked_go, inner_down}
+use Rattle.parsing.proofs.Chain.{Stands, chain_starts, chain_fails, chain_goes, Outcome, both_law, either_law, seq_law, alt_law, inner_down}
 use Rattle.parsing.proofs.Ahead.{operand_on, starred_on, prefix_on, prefix_stands}
 use Rattle.parsing.proofs.Wrap.{Waits, waits_more}
 
@@ -37,17 +40,14 @@ module _ (text : List ℕ) (d : ℕ) where
         chain_goes text both either code_and code_or code_keep (operand_at text (inner text d)) build both_law either_law (omega arith) (omega arith) i p e z
         (operand_on text d (λ (x : Formula). build x w) at p e z) (next_of n out) (k ∙ ap (λ (y : ℕ). followed code_and code_or code_keep y second first p.work) b-is)
 
-    pub formula_stop : n.more ≡ false → ok (work_of n.writing out) p.at ≡ map_got (λ (x : Formula). build x w₀) whole
+    pub formula_stop : {v : Writing} → n ≡ Stops v → ok (work_of v out) p.at ≡ map_got (λ (x : Formula). build x w₀) whole
     unfolding next_of
-    formula_stop h =
-        picked_stop (Outcome text both either code_and code_or code_keep (operand_at text (inner text d)) build both_law either_law (omega arith) (omega arith) whole w₀ p.at)
-        n.more n.waiting.second n.waiting.first (work_of n.writing out) h turn
+    formula_stop h = rw h at turn
 
-    pub formula_more : n.more ≡ true → (at < p.at) × (p.at < length text) × InFormula whole w₀ (p.at + 1) (work_of n.writing out) n.waiting.second n.waiting.first
+    pub formula_more : {v : Writing} {q : Waiting} → n ≡ Goes q v → (at < p.at) × (p.at < length text) × InFormula whole w₀ (p.at + 1) (work_of v out) q.second q.first
     unfolding next_of
     formula_more h =
-        let g = picked_go (Outcome text both either code_and code_or code_keep (operand_at text (inner text d)) build both_law either_law (omega arith) (omega arith) whole w₀ p.at)
-        n.more n.waiting.second n.waiting.first (work_of n.writing out) h turn in
+        let g = rw h at turn in
         (operand_on text d (λ (x : Formula). build x w) at p e z, g.0, g.1)
 
   abbrev pub InPath : Got Path → Work → ℕ → Work → Bool → Bool → Type 0
@@ -74,17 +74,14 @@ module _ (text : List ℕ) (d : ℕ) where
         chain_goes text seq alt code_seq code_alt code_keep_part (starred_at text (inner text d)) build_in seq_law alt_law (omega arith) (omega arith) i p (starred_is at w q p e f) z
         (starred_on text d (λ (x : Path). build_in x w) at p (starred_is at w q p e f) z) (next_of n out) (k ∙ ap (λ (y : ℕ). followed code_seq code_alt code_keep_part y second first p.work) b-is)
 
-    pub path_stop : n.more ≡ false → ok (work_of n.writing out) p.at ≡ map_got (λ (x : Path). build_in x w₀) whole
+    pub path_stop : {v : Writing} → n ≡ Stops v → ok (work_of v out) p.at ≡ map_got (λ (x : Path). build_in x w₀) whole
     unfolding next_of
-    path_stop h =
-        picked_stop (Outcome text seq alt code_seq code_alt code_keep_part (starred_at text (inner text d)) build_in seq_law alt_law (omega arith) (omega arith) whole w₀ p.at)
-        n.more n.waiting.second n.waiting.first (work_of n.writing out) h turn_in
+    path_stop h = rw h at turn_in
 
-    pub path_more : n.more ≡ true → (at < p.at) × (p.at < length text) × InPath whole w₀ (p.at + 1) (work_of n.writing out) n.waiting.second n.waiting.first
+    pub path_more : {v : Writing} {q : Waiting} → n ≡ Goes q v → (at < p.at) × (p.at < length text) × InPath whole w₀ (p.at + 1) (work_of v out) q.second q.first
     unfolding next_of
     path_more h =
-        let g = picked_go (Outcome text seq alt code_seq code_alt code_keep_part (starred_at text (inner text d)) build_in seq_law alt_law (omega arith) (omega arith) whole w₀ p.at)
-        n.more n.waiting.second n.waiting.first (work_of n.writing out) h turn_in in
+        let g = rw h at turn_in in
         (starred_on text d (λ (x : Path). build_in x w) at p (starred_is at w q p e f) z, g.0, g.1)
 
   pub operand_more : {whole : Got Formula} {w₀ : Work} {at count : ℕ} {w : Work} → Waits text (inner text d) whole w₀ at count w → is_prefix (byte text at) ≡ true → (p : Seen)

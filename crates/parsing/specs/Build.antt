@@ -1,12 +1,15 @@
 -- The work of a formula and of a path, and what the parser's answers stand for.
-use Rattle.std.specs.Prelude.{ℕ, zero, suc, ◌+◌, Bool, true, false, cond, List, eqb, length}
+use Rattle.std.specs.Prelude.{ℕ, zero, suc, ◌+◌, Bool, true, false, cond, List, [], Result, Ok, Err, eqb, length}
 use Rattle.aldlf.specs.Sheet.{ahead, back, stay}
 use Rattle.formula.specs.Signs.{sign_back, sign_test, sign_star, sign_fact, angle_open}
 use Rattle.formula.specs.Formula.{Formula, always, fact, neg, both, either, some, every, Path, step, seq, alt, many}
 use Rattle.formula.specs.Code.{code_true, code_keep, code_and, code_or, code_not, code_apply, code_begin, code_some, code_every, code_step, code_keep_part, code_seq, code_alt, code_many}
 use Rattle.formula.specs.Parse.{Got, ok, bad, deep, Prefix, bang, angle, square, byte, true_at, fact_at}
-use Rattle.parsing.specs.declared.answers.Parse as parse
+use Rattle.parsing.specs.declared.answers.Parsed.{Parsed}
+use Rattle.parsing.specs.declared.answers.ParseError.{ParseError}
+use Rattle.parsing.specs.declared.answers.ParseError.TheVariants.{NoFormula, TooDeep}
 use Rattle.parsing.specs.declared.parse.Next as next
+use Rattle.parsing.specs.declared.parse.Next.TheVariants.{Goes, Stops}
 use Rattle.parsing.specs.Work.{Work, work_of, put, put_if, masked, ended, stepped}
 
 unfoldable mutual
@@ -33,8 +36,14 @@ pub record Seen : Type 0 where
   pub at : ℕ
   pub work : Work
 
-abbrev pub seen_of : parse.Parse → List ℕ → Seen
-seen_of p out = record { number = p.number; at = p.at; work = work_of (record { length = p.length; modal = p.modal; stray = p.stray }) out }
+abbrev pub seen_of : Result Parsed ParseError → List ℕ → Seen
+seen_of (Ok p) out = record { number = 0; at = p.at; work = work_of p.writing out }
+seen_of (Err (NoFormula at)) out = record { number = 51; at = at; work = work_of (record { length = 0; modal = 0; stray = 0 }) out }
+seen_of (Err (TooDeep at)) out = record { number = 52; at = at; work = work_of (record { length = 0; modal = 0; stray = 0 }) out }
+
+-- The place that it names.
+abbrev pub place_of : Result Parsed ParseError → ℕ
+place_of p = (seen_of p []).at
 
 -- What it stands for.
 unfoldable pub got_of : Seen → Got Work
@@ -45,12 +54,9 @@ pub data Next : Type 0 where
   goes : (second first : Bool) → Work → Next
   stops : Work → Next
 
-abbrev pub pick_next : Bool → Bool → Bool → Work → Next
-pick_next true o a w = goes o a w
-pick_next false o a w = stops w
-
 unfoldable pub next_of : next.Next → List ℕ → Next
-next_of n out = pick_next n.more n.waiting.second n.waiting.first (work_of n.writing out)
+next_of (Goes h w) out = goes h.second h.first (work_of w out)
+next_of (Stops w) out = stops (work_of w out)
 
 -- x is the byte behind the item: b joins it to a left side that waits for b, c joins that to one that waits for c, any other byte ends the chain.
 unfoldable pub followed : (b c keep x : ℕ) → (o a : Bool) → Work → Next

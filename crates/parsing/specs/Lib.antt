@@ -1,3 +1,4 @@
+pub mod Refusals
 pub mod Work
 pub mod Build
 pub mod Written

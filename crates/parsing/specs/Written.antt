@@ -1,11 +1,12 @@
 -- What writing a text's instructions comes to: the instructions, or the first of refusals 50, 51 and 52, 54.
-use Rattle.std.specs.Prelude.{ℕ, cond, List, eqb, leb, length, take}
+use Rattle.std.specs.Prelude.{ℕ, Result, Ok, Err, cond, List, eqb, leb, length, take}
 use Rattle.formula.specs.Limits.{formula_limit}
 use Rattle.formula.specs.Formula.{Formula}
 use Rattle.formula.specs.Parse.{Got, ok, bad, deep, parsed}
 use Rattle.formula.specs.Outcome.{steps_plain}
 use Rattle.formula.specs.Code.{code}
-use Rattle.parsing.specs.declared.Written as written
+use Rattle.parsing.specs.declared.refusal.FormulaRefusal.{FormulaRefusal}
+use Rattle.parsing.specs.Refusals.{refusal_number, refusal_place}
 use Rattle.parsing.specs.Work.{Work}
 
 -- How many instructions a text has at most: two for each byte.
@@ -18,8 +19,9 @@ pub data Coded : Type 0 where
   refused : (number place : ℕ) → Coded
 
 -- What the code's answer stands for, by the lent bytes.
-unfoldable pub coded_of : written.Written → List ℕ → Coded
-coded_of r out = cond (eqb r.number 0) (coded (take r.length out)) (refused r.number r.place)
+unfoldable pub coded_of : Result ℕ FormulaRefusal → List ℕ → Coded
+coded_of (Ok n) out = coded (take n out)
+coded_of (Err r) out = refused (refusal_number r) (refusal_place r)
 
 -- 51 and 52, then 54, of what was read.
 abbrev pub coded_by : Got Formula → Coded

@@ -1,83 +1,41 @@
 // What stands in a formula's text without a formula or path of its own: single bytes, `true`, facts, stars.
 ghost use Rattle.std.specs.Prelude.{◌≡◌, true, List, ℕ, ◌+◌, ◌*◌, ◌-◌, ◌≤◌, ◌<◌, length};
+ghost use Rattle.std.specs.Option.{unwrap_or};
 ghost use Rattle.text.specs.Text.{is_digit};
 ghost use Rattle.formula.specs.Formula.{Formula};
 ghost use Rattle.formula.specs.Parse.{byte, closed, map_got, is_pair, is_prefix, fact_at, true_at};
 ghost use Rattle.parsing.specs.Work.{work_of};
 ghost use Rattle.parsing.specs.Build.{build, seen_of, got_of, fact_by, simple_at, stars_on};
 
-use super::answers::{Parse, no_formula, read_to};
+use super::answers::{Parse, ParseError, Parsed};
 use super::writing::{Writing, write};
 
-// The bytes that the parser looks for: `!`, `(` and `)`, `*`, `-`, `<`, `?`, `[`, `f`, `t`, `{` and `}`. A byte is read as 16 bits, for there
-// is none past the end.
-pub(crate) const NOT: u16 = 33;
-
-pub(crate) const ROUND: u16 = 40;
-
-pub(crate) const ROUND_END: u16 = 41;
-
-const STAR: u16 = 42;
-
-pub(crate) const BACK: u16 = 45;
-
-pub(crate) const ANGLE: u16 = 60;
-
-pub(crate) const TEST: u16 = 63;
-
-const SQUARE: u16 = 91;
-
-const FACT: u16 = 102;
-
-const TRUE: u16 = 116;
-
-pub(crate) const CURLY: u16 = 123;
-
-pub(crate) const CURLY_END: u16 = 125;
-
-fn wide(x: u8) -> u16
-    ensures { result ≡ x }
+// The byte at a place, if there is one. Definitions say 256 where there is none.
+pub(crate) fn byte_at(text: &[u8], at: usize) -> Option<u8>
+    ensures { unwrap_or result 256 ≡ byte text.now at }
 {
-    x as u16
-}
-
-// The byte at a place, 256 past the end.
-pub(crate) fn byte_at(text: &[u8], at: usize) -> u16
-    ensures { result ≡ byte text.now at }
-{
-    if at < text.len() {
-        return wide(text[at]);
-    }
-    256
+    text.get(at).copied()
 }
 
 // The byte begins a prefix: `!`, `<` or `[`.
-pub(crate) fn is_prefix(b: u16) -> bool
-    ensures { result ≡ is_prefix b }
+pub(crate) fn is_prefix(b: Option<u8>) -> bool
+    ensures { result ≡ is_prefix (unwrap_or b 256) }
 {
-    (b == NOT) | ((b == ANGLE) | (b == SQUARE))
+    matches!(b, Some(b'!' | b'<' | b'['))
 }
 
 // What was read, if the byte b stands behind it.
-pub(crate) fn close(text: &[u8], p: Parse, b: u16) -> Parse
-    requires { b < 256 }
+pub(crate) fn close(text: &[u8], p: Parse, b: u8) -> Parse
     ensures { (out : List ℕ) → got_of (seen_of result out) ≡ closed text.now b (got_of (seen_of p out)) }
 {
-    let number = p.number;
-    if number != 0 {
-        return p;
+    let p = p?;
+    if byte_at(text, p.at) == Some(b) {
+        return Ok(Parsed {
+            at: p.at + 1,
+            writing: p.writing,
+        });
     }
-    let at = p.at;
-    let x = byte_at(text, at);
-    let w = Writing {
-        length: p.length,
-        modal: p.modal,
-        stray: p.stray,
-    };
-    if x == b {
-        return read_to(at + 1, w);
-    }
-    no_formula(at)
+    Err(ParseError::NoFormula(p.at))
 }
 
 // `true` or a fact.
@@ -85,13 +43,13 @@ pub(crate) fn simple(text: &[u8], at: usize, w: Writing, out: &mut [u8]) -> Pars
     ensures { got_of (seen_of result out.new) ≡ map_got (λ (a : Formula). build a (work_of w out.old)) (simple_at text.now at) }
 {
     let b = byte_at(text, at);
-    if b == TRUE {
+    if b == Some(b't') {
         return truth(text, at + 1, w, out);
     }
-    if b == FACT {
+    if b == Some(b'f') {
         return fact(text, at + 1, w, out);
     }
-    no_formula(at)
+    Err(ParseError::NoFormula(at))
 }
 
 // After `t`: `r`, `u`, `e`.
@@ -99,17 +57,20 @@ fn truth(text: &[u8], at: usize, w: Writing, out: &mut [u8]) -> Parse
     requires { at ≤ length text.now }
     ensures { got_of (seen_of result out.new) ≡ map_got (λ (a : Formula). build a (work_of w out.old)) (true_at text.now at) }
 {
-    if byte_at(text, at) != 114 {
-        return no_formula(at);
+    if byte_at(text, at) != Some(b'r') {
+        return Err(ParseError::NoFormula(at));
     }
-    if byte_at(text, at + 1) != 117 {
-        return no_formula(at + 1);
+    if byte_at(text, at + 1) != Some(b'u') {
+        return Err(ParseError::NoFormula(at + 1));
     }
-    if byte_at(text, at + 2) != 101 {
-        return no_formula(at + 2);
+    if byte_at(text, at + 2) != Some(b'e') {
+        return Err(ParseError::NoFormula(at + 2));
     }
-    let x = write(w, b'T', out);
-    read_to(at + 3, x)
+    let writing = write(w, b'T', out);
+    Ok(Parsed {
+        at: at + 3,
+        writing,
+    })
 }
 
 // After `f`: 0 to 31 without padding, the longest that goes on.
@@ -117,63 +78,65 @@ fn fact(text: &[u8], at: usize, w: Writing, out: &mut [u8]) -> Parse
     requires { at ≤ length text.now }
     ensures { got_of (seen_of result out.new) ≡ map_got (λ (a : Formula). build a (work_of w out.old)) (fact_at text.now at) }
 {
-    let b = byte_at(text, at);
+    let Some(b) = byte_at(text, at) else {
+        return Err(ParseError::NoFormula(at));
+    };
     if !is_digit(b) {
-        return no_formula(at);
+        return Err(ParseError::NoFormula(at));
     }
-    let c = byte_at(text, at + 1);
-    if is_pair(b, c) {
-        return two_digits(at, b, c, w, out);
+    match byte_at(text, at + 1) {
+        Some(c) if is_pair(b, c) => two_digits(at, b, c, w, out),
+        _ => one_digit(at, b, w, out),
     }
-    one_digit(at, b, w, out)
 }
 
-fn is_digit(b: u16) -> bool
+fn is_digit(b: u8) -> bool
     ensures { result ≡ is_digit b }
 {
-    (48 <= b) & (b <= 57)
+    (b'0' <= b) & (b <= b'9')
 }
 
 // Two digits that are a fact's number: 10 to 31.
-fn is_pair(b: u16, c: u16) -> bool
+fn is_pair(b: u8, c: u8) -> bool
     ensures { result ≡ is_pair b c }
 {
-    is_digit(c) & (((49 <= b) & (b <= 50)) | ((b == 51) & (c <= 49)))
+    is_digit(c) & (((b'1' <= b) & (b <= b'2')) | ((b == b'3') & (c <= b'1')))
 }
 
-fn one_digit(at: usize, b: u16, w: Writing, out: &mut [u8]) -> Parse
+fn one_digit(at: usize, b: u8, w: Writing, out: &mut [u8]) -> Parse
     requires { (is_digit b ≡ true) × (at < 18446744073709551615) }
     ensures { got_of (seen_of result out.new) ≡ fact_by (b - 48) (at + 1) (work_of w out.old) }
 {
-    let x = write(w, (b - 48) as u8, out);
-    read_to(at + 1, x)
+    let writing = write(w, b - b'0', out);
+    Ok(Parsed {
+        at: at + 1,
+        writing,
+    })
 }
 
-fn two_digits(at: usize, b: u16, c: u16, w: Writing, out: &mut [u8]) -> Parse
+fn two_digits(at: usize, b: u8, c: u8, w: Writing, out: &mut [u8]) -> Parse
     requires { (is_pair b c ≡ true) × (at < 18446744073709551614) }
     ensures { got_of (seen_of result out.new) ≡ fact_by ((b - 48) * 10 + (c - 48)) (at + 2) (work_of w out.old) }
 {
-    let x = write(w, ((b - 48) * 10 + (c - 48)) as u8, out);
-    read_to(at + 2, x)
+    let writing = write(w, (b - b'0') * 10 + (c - b'0'), out);
+    Ok(Parsed {
+        at: at + 2,
+        writing,
+    })
 }
 
 // As many `*` as there are behind a piece.
 pub(crate) fn stars(text: &[u8], p: Parse, out: &mut [u8]) -> Parse
     ensures { got_of (seen_of result out.new) ≡ stars_on text.now (got_of (seen_of p out.old)) }
 {
-    let number = p.number;
-    if number != 0 {
-        return p;
-    }
-    let mut at = p.at;
-    let mut w = Writing {
-        length: p.length,
-        modal: p.modal,
-        stray: p.stray,
-    };
-    while byte_at(text, at) == STAR {
-        w = write(w, b'*', out);
+    let Parsed {
+        mut at,
+        mut writing,
+    } = p?;
+    // A `while`: counting the stars first, for a `for`, would look at each of them twice.
+    while byte_at(text, at) == Some(b'*') {
+        writing = write(writing, b'*', out);
         at += 1;
     }
-    read_to(at, w)
+    Ok(Parsed { at, writing })
 }

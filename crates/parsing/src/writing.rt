@@ -15,13 +15,11 @@ pub(crate) struct Writing {
 pub(crate) fn write(w: Writing, code: u8, out: &mut [u8]) -> Writing
     ensures { work_of result out.new ≡ put code (work_of w out.old) }
 {
-    let n = w.length;
-    if n < out.len() {
-        out[n] = code;
+    if w.length < out.len() {
+        out[w.length] = code;
         return Writing {
-            length: n + 1,
-            modal: w.modal,
-            stray: w.stray,
+            length: w.length + 1,
+            ..w
         };
     }
     w
@@ -42,10 +40,8 @@ pub(crate) fn write_prefixes(w: Writing, count: usize, out: &mut [u8]) -> Writin
     ensures { work_of result out.new ≡ applied count (work_of w out.old) }
 {
     let mut x = w;
-    let mut i: usize = 0;
-    while i < count {
+    for _ in 0..count {
         x = write(x, b'.', out);
-        i += 1;
     }
     x
 }
@@ -55,22 +51,14 @@ pub(crate) fn write_end(w: Writing, code: u8, out: &mut [u8]) -> Writing
     ensures { work_of result out.new ≡ ended code (work_of w out.old) }
 {
     let x = write(w, code, out);
-    Writing {
-        length: x.length,
-        modal: 1,
-        stray: x.stray,
-    }
+    Writing { modal: 1, ..x }
 }
 
 // A step's formula begins.
 pub(crate) fn masked_at(w: Writing) -> Writing
     ensures { (out : List ℕ) → work_of result out ≡ masked (work_of w out) }
 {
-    Writing {
-        length: w.length,
-        modal: 0,
-        stray: w.stray,
-    }
+    Writing { modal: 0, ..w }
 }
 
 // A step: a path mark in it is astray unless the step is a test.
@@ -79,9 +67,8 @@ pub(crate) fn write_step(w: Writing, code: u8, out: &mut [u8]) -> Writing
 {
     let x = write(w, code, out);
     Writing {
-        length: x.length,
-        modal: x.modal,
         stray: stray_by(code, x.modal, x.stray),
+        ..x
     }
 }
 

@@ -1,9 +1,10 @@
 -- THE RULE AS TEXT (document 02, S-7): each node in full brackets, automata as `m` and their number, down to the facts; what printing it answers.
-use Rattle.std.specs.Prelude.{ℕ, zero, suc, ◌-◌, Bool, true, false, cond, List, [], ◌∷◌, ◌++◌, eqb}
+use Rattle.std.specs.Prelude.{Result, Ok, Err, ℕ, zero, suc, ◌-◌, Bool, true, false, cond, List, [], ◌∷◌, ◌++◌, eqb}
 use Rattle.aldlf.specs.Sheet.{Sheet, Line, T, F, P, N, A, O, D, B}
+use Rattle.aldlf.specs.Refusals.{refusal_number}
+use Rattle.aldlf.specs.declared.Refusal.{Refusal}
 use Rattle.appending.specs.Appending.{decimal}
 use Rattle.appending.specs.Placed.{Printed, unprinted, placed}
-use Rattle.printing.specs.declared.RuleAnswer.{RuleAnswer}
 
 -- `true` and `false`
 abbrev pub true_text : List ℕ
@@ -43,9 +44,10 @@ node_text S k = texts_below S (suc k) k
 abbrev pub rule_text : Sheet → List ℕ
 rule_text S = node_text S (S.nodes - 1)
 
--- What printing a rule answers, beside the buffer as the call ends.
-abbrev pub printed_of : RuleAnswer → List ℕ → Printed
-printed_of r buffer = record { number = r.number; count = r.bytes; buffer = buffer }
+-- What printing answers, beside the buffer as the call ends: how many bytes, or a refusal by its number, with no byte.
+abbrev pub printed_of : Result ℕ Refusal → List ℕ → Printed
+printed_of (Ok n) buffer = record { number = 0; count = n; buffer = buffer }
+printed_of (Err r) buffer = record { number = refusal_number r; count = 0; buffer = buffer }
 
 -- Printing the rule of a sheet's table: 31 where no sheet gives the table, then 55 where the text is longer than the buffer.
 unfoldable pub print_outcome : (given : Bool) → Sheet → (lent : List ℕ) → Printed

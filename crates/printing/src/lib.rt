@@ -11,22 +11,14 @@ ghost use Rattle.aldlf.specs.Sheet.{sheet_of};
 ghost use Rattle.sheet.specs.Given.{well_formed};
 ghost use Rattle.printing.specs.Print.{printed_of, print_outcome};
 
-use aldlf::Table;
+use aldlf::{Refusal, Table};
 use lent::print_rule_lent;
 use packing::places::PLACES;
 use packing::writing::pack;
 
-// What printing a rule answers. Number 0: the text was written, and `bytes` counts it. Else 31 or 55; `bytes` is 0, and nothing was
-// altered.
-#[derive(Clone, Copy)]
-pub struct RuleAnswer {
-    pub number: u8,
-    pub bytes: usize,
-}
-
-// The rule's text in the first places of `out`, the rest of `out` as lent. 31: no sheet gives the table. 55: the text is longer than
-// `out`; it can be exponentially longer than the sheet, since a node that is named twice is printed twice.
-pub fn print_rule(table: Table, out: &mut [u8]) -> RuleAnswer
+// The rule's text in the first places of `out`, the rest of `out` as lent, and how many bytes it has. A refusal alters nothing. NotGiven:
+// no sheet gives the table. TextRoom: the text is longer than `out`; it can be exponentially longer than the sheet, since a node that is named twice is printed twice.
+pub fn print_rule(table: Table, out: &mut [u8]) -> Result<usize, Refusal>
     ensures { printed_of result out.new ≡ print_outcome (well_formed table) (sheet_of table) out.old }
 {
     let mut numbers = [0u32; PLACES];

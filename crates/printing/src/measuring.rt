@@ -18,13 +18,10 @@ pub(crate) fn rule_fits(numbers: &[u32], room: usize) -> bool
 {
     let mut lasts = [0usize; aldlf::NODES];
     let count = used_in(numbers).nodes;
-    let mut k: u8 = 0;
-    while k < count {
-        let last = last_place(numbers, Node(k), &lasts, room);
-        lasts[k as usize] = last;
-        k += 1;
+    for k in 0..count {
+        lasts[usize::from(k)] = last_place(numbers, Node(k), &lasts, room);
     }
-    lasts[(count - 1) as usize] < room
+    lasts[usize::from(count - 1)] < room
 }
 
 // The place of the last byte of a node's text; the room where that is no place of the buffer.
@@ -51,8 +48,5 @@ fn further(place: usize, more: usize, room: usize) -> usize
     requires { place ≤ room }
     ensures { result ≡ min (place + more) room }
 {
-    if more <= room - place {
-        return place + more;
-    }
-    room
+    place + more.min(room - place)
 }

@@ -12,6 +12,8 @@ use lib.Dec.{eqb, leb}
 use borrow.Author.Tests.{ne_eqb}
 use Rattle.aldlf.specs.Constants.{node_limit, letter_p, letter_n, letter_a, letter_o, letter_d, letter_b}
 use Rattle.aldlf.specs.Sheet.{no_line}
+use Rattle.aldlf.specs.Refusals.{refusal_number}
+use Rattle.aldlf.specs.declared.Refusal.{Refusal}
 use Rattle.aldlf.specs.declared.NodeLine.{NodeLine}
 use Rattle.aldlf.specs.declared.Automaton.{Automaton}
 use Rattle.aldlf.specs.declared.Edge.{Edge}
@@ -23,8 +25,8 @@ use Rattle.sheet.specs.Facts.{node_at, automaton_at, edge_at, TableFacts}
 use Rattle.sheet.proofs.Bools.{same, split}
 use Rattle.sheet.proofs.Facts.{table_facts}
 use Rattle.sheet.proofs.Decided.{wf_yes}
-use Rattle.profile.specs.declared.ProfileAnswer.{ProfileAnswer}
-use Rattle.profile.specs.declared.ProfileCheck.{ProfileCheck}
+use Rattle.profile.specs.Profile.{ProfileAnswer}
+use Rattle.profile.specs.Profile.{ProfileCheck}
 use Rattle.profile.specs.Profile.{line, exchanged, kept_line, opposite_line, kept_in, opposite_in, doubled, profile_lines, kept_automaton, kept_edge, profile_of, profile_number, profile_outcome, line_in_profile, in_profile, profile_check}
 use Rattle.profile.specs.Room.{NamesRoom}
 
@@ -118,6 +120,10 @@ module _ (k : ℕ) (x : NodeLine) (d : ℕ) (is : d ≡ exchanged x.kind) where
       ap (λ (z : ℕ). line z x.a x.b) is
       ∙ simp (ne_eqb x.kind letter_p r, ne_eqb x.kind letter_a (λ e. p (inl e)), ne_eqb x.kind letter_o (λ e. p (inr e)), ne_eqb x.kind letter_b (λ e. q (inl e)), ne_eqb x.kind letter_d (λ e. q (inr e)))
 
+-- lines with the same letter and numbers are the same
+pub line_cong : {c a b c' a' b' : ℕ} → c ≡ c' → a ≡ a' → b ≡ b' → line c a b ≡ line c' a' b'
+line_cong e f g = rw (e, f, g)
+
 pub opposite_not : (k : ℕ) (x : NodeLine) (out : List NodeLine) → x.kind ≡ letter_n → get_or out (2 * x.a) no_line ≡ opposite_in k out x
 unfolding opposite_in
 opposite_not k x out e = rw e
@@ -131,6 +137,10 @@ pub doubled_next : (ns : List NodeLine) (k : ℕ) (out : List NodeLine) (p q : N
     → set (set out (2 * k) p) (2 * k + 1) q ≡ doubled ns (k + 1)
 unfolding doubled
 doubled_next ns k out p q e a b = rw (a, b, e) (ap (doubled ns) (sym (add-one k)))
+
+pub pair_next : (ns : List NodeLine) (k : ℕ) (out : List NodeLine) (pq : NodeLine × NodeLine) → out ≡ doubled ns k
+    → pq ≡ (kept_in out (get_or ns k no_line), opposite_in k out (get_or ns k no_line)) → set (set out (2 * k) pq.0) (2 * k + 1) pq.1 ≡ doubled ns (k + 1)
+pair_next ns k out pq e p = doubled_next ns k out pq.0 pq.1 e (ap (λ (r : NodeLine × NodeLine). r.0) p) (ap (λ (r : NodeLine × NodeLine). r.1) p)
 
 -- the rule's line again
 pub last_put : (ns : List NodeLine) (n : ℕ) (out : List NodeLine) → out ≡ doubled ns n → set out (2 * n) (get_or out (2 * (n - 1)) no_line) ≡ profile_lines ns n
@@ -178,6 +188,10 @@ number_42 t e f = rw (e, f)
 pub number_0 : (t : Table) → well_formed t ≡ true → leb (2 * t.used.nodes + 1) node_limit ≡ true → 0 ≡ profile_number t
 unfolding profile_number
 number_0 t e f = rw (e, f)
+
+-- a refusal has a number
+pub refused : (r : Refusal) → refusal_number r ≡ 0 → ⊥
+refused r e = grind arith
 
 pub outcome_no : (t : Table) (q : ℕ) → q ≡ profile_number t → (q ≡ 0 → ⊥) → ◌≡◌ {A = ProfileAnswer} (record { number = q; table = empty_table }) (profile_outcome t)
 unfolding profile_outcome

@@ -1,16 +1,36 @@
 -- THE PLAIN PROFILE (document 02, S-4): the table in which N stands directly on facts, what making it answers, and whether a sheet is in it.
-use Rattle.std.specs.Prelude.{ℕ, zero, suc, ◌+◌, ◌*◌, ◌-◌, Bool, false, cond, not, ◌||◌, List, [], ◌∷◌, map, get_or, set, replicate, eqb, leb}
+use Rattle.std.specs.Prelude.{Result, Ok, Err, ℕ, zero, suc, ◌+◌, ◌*◌, ◌-◌, Bool, false, cond, not, ◌||◌, List, [], ◌∷◌, map, get_or, set, replicate, eqb, leb}
 use Rattle.aldlf.specs.Constants.{node_limit, letter_t, letter_f, letter_p, letter_n, letter_a, letter_o, letter_d, letter_b}
 use Rattle.aldlf.specs.Sheet.{no_line}
 use Rattle.aldlf.specs.Outcomes.{first_no}
+use Rattle.aldlf.specs.Refusals.{refusal_number}
+use Rattle.aldlf.specs.declared.Refusal.{Refusal}
 use Rattle.aldlf.specs.declared.NodeLine.{NodeLine}
 use Rattle.aldlf.specs.declared.Edge.{Edge}
 use Rattle.aldlf.specs.declared.Automaton.{Automaton}
 use Rattle.aldlf.specs.declared.Table.{Table}
 use Rattle.sheet.specs.Questions.{empty_table, each}
 use Rattle.sheet.specs.Given.{well_formed}
-use Rattle.profile.specs.declared.ProfileAnswer.{ProfileAnswer}
-use Rattle.profile.specs.declared.ProfileCheck.{ProfileCheck}
+
+-- What making a profile answers. Number 0: the table in the profile. Else 31 or 42, and a table all zeros.
+pub record ProfileAnswer : Type 0 where
+  pub number : ℕ
+  pub table : Table
+
+-- What the yes-or-no answers. Number 0: whether the sheet is in the profile. Else 31, and no.
+pub record ProfileCheck : Type 0 where
+  pub number : ℕ
+  pub yes : Bool
+
+-- The table that was made, or a refusal by its number, with a table all zeros.
+abbrev pub profile_answer : Result Table Refusal → ProfileAnswer
+profile_answer (Ok t) = record { number = 0; table = t }
+profile_answer (Err r) = record { number = refusal_number r; table = empty_table }
+
+-- The yes-or-no, or a refusal by its number, with a no.
+abbrev pub check_answer : Result Bool Refusal → ProfileCheck
+check_answer (Ok b) = record { number = 0; yes = b }
+check_answer (Err r) = record { number = refusal_number r; yes = false }
 
 -- A node line by its letter and its two numbers.
 abbrev pub line : ℕ → ℕ → ℕ → NodeLine

@@ -7,21 +7,15 @@ ghost use Rattle.profile.specs.Room.{ProfileRoom};
 
 use aldlf::{Automaton, Edge, Node};
 use packing::places::{automaton_at, edge_at};
-use sheet::empty::{no_automaton, no_edge};
 
 // The automata, their M lines between the new lines as they stood between the old ones.
 pub(crate) fn kept_automata(numbers: &[u32]) -> [Automaton; aldlf::AUTOMATA]
     requires { (t : Table) × ProfileRoom t numbers.now }
     ensures { (t : Table) → ProfileRoom t numbers.now → result ≡ map kept_automaton t.automata }
 {
-    let none = no_automaton();
-    let mut out = [none; aldlf::AUTOMATA];
-    let mut m: usize = 0;
-    while m < aldlf::AUTOMATA {
-        let x = automaton_at(numbers, m as u8);
-        let y = kept_automaton(x);
-        out[m] = y;
-        m += 1;
+    let mut out = [Automaton::default(); aldlf::AUTOMATA];
+    for (m, x) in out.iter_mut().enumerate() {
+        *x = kept_automaton(automaton_at(numbers, m as u8));
     }
     out
 }
@@ -31,30 +25,20 @@ fn kept_automaton(x: Automaton) -> Automaton
     requires { 2 * x.before < node_limit }
     ensures { result ≡ kept_automaton x }
 {
-    let s = x.start;
     Automaton {
-        states: x.states,
-        start: s,
-        accepting: x.accepting,
-        first: x.first,
-        count: x.count,
         before: 2 * x.before,
+        ..x
     }
 }
 
-// The edges, each naming 2a for a.
+// The edges, each naming 2a for a: a loop like that of the automata, for `array::from_fn` was tried for both, and its proof didn't close.
 pub(crate) fn kept_edges(numbers: &[u32]) -> [Edge; aldlf::EDGES]
     requires { (t : Table) × ProfileRoom t numbers.now }
     ensures { (t : Table) → ProfileRoom t numbers.now → result ≡ map kept_edge t.edges }
 {
-    let none = no_edge();
-    let mut out = [none; aldlf::EDGES];
-    let mut e: usize = 0;
-    while e < aldlf::EDGES {
-        let x = edge_at(numbers, e as u16);
-        let y = kept_edge(x);
-        out[e] = y;
-        e += 1;
+    let mut out = [Edge::default(); aldlf::EDGES];
+    for (e, x) in out.iter_mut().enumerate() {
+        *x = kept_edge(edge_at(numbers, e as u16));
     }
     out
 }
@@ -64,14 +48,8 @@ fn kept_edge(x: Edge) -> Edge
     requires { 2 * x.test.0 < node_limit }
     ensures { result ≡ kept_edge x }
 {
-    let s = x.from;
-    let t = x.to;
-    let a = x.test.0;
-    let n = Node(2 * a);
     Edge {
-        from: s,
-        dir: x.dir,
-        test: n,
-        to: t,
+        test: Node(2 * x.test.0),
+        ..x
     }
 }

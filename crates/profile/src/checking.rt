@@ -13,13 +13,11 @@ pub(crate) fn in_profile(numbers: &[u32]) -> bool
     requires { (t : Table) × Packed t numbers.now × (well_formed t ≡ true) }
     ensures { (t : Table) → Packed t numbers.now → well_formed t ≡ true → result ≡ in_profile t }
 {
-    let n = used_in(numbers).nodes;
-    let mut k: u8 = 0;
-    while k < n {
+    // Not by `all`: its proof doesn't close, since what is known of a call of the closure speaks of every table lent as these numbers.
+    for k in 0..used_in(numbers).nodes {
         if !line_in_profile(numbers, Node(k)) {
             return false;
         }
-        k += 1;
     }
     true
 }
@@ -30,9 +28,5 @@ fn line_in_profile(numbers: &[u32], k: Node) -> bool
     ensures { (t : Table) → Packed t numbers.now → well_formed t ≡ true → k.0 < t.used.nodes → result ≡ line_in_profile t.nodes k.0 }
 {
     let x = line_at(numbers, k);
-    if x.kind != b'N' {
-        return true;
-    }
-    let y = line_at(numbers, Node(x.a));
-    y.kind == b'P'
+    x.kind != b'N' || line_at(numbers, Node(x.a)).kind == b'P'
 }

@@ -7,7 +7,6 @@ ghost use Rattle.profile.specs.Room.{ProfileRoom, NamesRoom};
 
 use aldlf::{Node, NodeLine};
 use packing::places::{line_at, used_in};
-use sheet::empty::no_line;
 
 // All new lines: a last line repeats the rule's.
 pub(crate) fn profile_lines(numbers: &[u32]) -> [NodeLine; aldlf::NODES]
@@ -16,8 +15,7 @@ pub(crate) fn profile_lines(numbers: &[u32]) -> [NodeLine; aldlf::NODES]
 {
     let mut out = doubled_lines(numbers);
     let n = used_in(numbers).nodes as usize;
-    let x = out[2 * (n - 1)];
-    out[2 * n] = x;
+    out[2 * n] = out[2 * (n - 1)];
     out
 }
 
@@ -26,26 +24,18 @@ fn doubled_lines(numbers: &[u32]) -> [NodeLine; aldlf::NODES]
     requires { (t : Table) × ProfileRoom t numbers.now }
     ensures { (t : Table) → ProfileRoom t numbers.now → result ≡ doubled t.nodes t.used.nodes }
 {
-    let none = no_line();
-    let mut out = [none; aldlf::NODES];
-    let n = used_in(numbers).nodes;
-    let mut k: u8 = 0;
-    while k < n {
+    let mut out = [NodeLine::default(); aldlf::NODES];
+    for k in 0..used_in(numbers).nodes {
         let x = line_at(numbers, Node(k));
-        let i = 2 * (k as usize);
-        if x.kind == b'N' {
-            let j = 2 * (x.a as usize);
-            let p = out[j + 1];
-            let q = out[j];
-            out[i] = p;
-            out[i + 1] = q;
+        let (kept, opposite) = if x.kind == b'N' {
+            let j = 2 * usize::from(x.a);
+            (out[j + 1], out[j])
         } else {
-            let p = kept_line(x);
-            let q = opposite_line(Node(k), x);
-            out[i] = p;
-            out[i + 1] = q;
-        }
-        k += 1;
+            (kept_line(x), opposite_line(Node(k), x))
+        };
+        let i = 2 * usize::from(k);
+        out[i] = kept;
+        out[i + 1] = opposite;
     }
     out
 }
@@ -55,18 +45,13 @@ fn kept_line(x: NodeLine) -> NodeLine
     requires { NamesRoom x }
     ensures { result ≡ kept_line x }
 {
-    let c = x.kind;
-    match c {
+    match x.kind {
         b'A' | b'O' => NodeLine {
-            kind: c,
             a: 2 * x.a,
             b: 2 * x.b,
+            ..x
         },
-        b'D' | b'B' => NodeLine {
-            kind: c,
-            a: x.a,
-            b: 2 * x.b,
-        },
+        b'D' | b'B' => NodeLine { b: 2 * x.b, ..x },
         _ => x,
     }
 }
@@ -76,29 +61,24 @@ fn opposite_line(k: Node, x: NodeLine) -> NodeLine
     requires { (2 * k.0 + 1 < node_limit) × NamesRoom x }
     ensures { result ≡ opposite_line k.0 x }
 {
-    let c = x.kind;
-    let d = exchanged_letter(c);
-    match c {
+    let kind = exchanged_letter(x.kind);
+    match x.kind {
         b'P' => NodeLine {
             kind: b'N',
             a: 2 * k.0,
             b: 0,
         },
         b'A' | b'O' => NodeLine {
-            kind: d,
+            kind,
             a: 2 * x.a + 1,
             b: 2 * x.b + 1,
         },
         b'D' | b'B' => NodeLine {
-            kind: d,
-            a: x.a,
+            kind,
             b: 2 * x.b + 1,
+            ..x
         },
-        _ => NodeLine {
-            kind: d,
-            a: x.a,
-            b: x.b,
-        },
+        _ => NodeLine { kind, ..x },
     }
 }
 

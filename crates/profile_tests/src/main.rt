@@ -4,38 +4,24 @@
 #![tactic(auto)]
 
 mod calls;
-mod show;
 mod tables;
 
-use cases::show::put;
 use std::io;
 
 fn main(rt: HostRuntime) -> io::Result<()> {
-    let mut input = [0u8; cases::INPUT];
-    let n = cases::read_input(&rt, &mut input)?;
-    each(&rt, &input[..n])
-}
-
-// The cases in order.
-fn each(rt: &impl Print, lines: &[u8]) -> io::Result<()> {
-    let mut at: usize = 0;
-    while at < lines.len() {
-        case(rt, text::line_at(lines, at))?;
-        at = cases::past(lines, b'\n', at);
-    }
-    Ok(())
+    cases::each(&rt, |line| case(&rt, line))
 }
 
 // A case's name and its outcome.
 fn case(rt: &impl Print, line: &[u8]) -> io::Result<()> {
-    put(rt, cases::field(line, 1))?;
+    rt.write_all(cases::field(line, 1))?;
     tried(rt, line)?;
-    put(rt, b"\n")
+    rt.write_all(b"\n")
 }
 
 // What is tried: the profile, of a changed table too, the profile of the profile, the profile judged; else whether the sheet is in it.
 fn tried(rt: &impl Print, line: &[u8]) -> io::Result<()> {
-    let t = tables::read(line);
+    let t = cases::table(line, 2);
     match cases::letter(line) {
         b'm' => calls::made(rt, t),
         b'n' => calls::changed(rt, tables::changed(t, line)),

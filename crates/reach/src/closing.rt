@@ -34,10 +34,7 @@ fn beside(on: bool, steps: &[u16], place: usize, mask: u16) -> u16
     requires { place + state_limit ≤ length steps.now }
     ensures { Beside on steps.now place mask result }
 {
-    if on {
-        return pull(steps, place, mask);
-    }
-    0
+    if on { pull(steps, place, mask) } else { 0 }
 }
 
 // The mask `grown` from `start`, with all states from which edges that stay lead to it.
@@ -45,10 +42,11 @@ fn within(steps: &[u16], place: usize, v: Visit, start: u16, grown: u16) -> u16
     requires { place + state_limit ≤ length steps.now }
     ensures { Stayed v steps.now place start grown result }
 {
-    if !asked(v, start, grown) {
-        return grown;
+    if asked(v, start, grown) {
+        grown | pull(steps, place, grown)
+    } else {
+        grown
     }
-    grown | pull(steps, place, grown)
 }
 
 // Whether the edges that stay are looked at: there are some, and they are due or the mask has grown.

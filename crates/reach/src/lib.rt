@@ -12,7 +12,7 @@ ghost use Rattle.aldlf.specs.Sheet.{«bit» as bit_of};
 ghost use Rattle.aldlf.specs.Verdict.{«facing» as facingOf};
 ghost use Rattle.aldlf.specs.Outcomes.{verdict_at};
 ghost use Rattle.aldlf.specs.Constants.{node_limit, entry_limit, word_bits};
-ghost use Rattle.reach.specs.Marks.{at, pick, paired, verdict_added, EdgesFit, Reaching};
+ghost use Rattle.reach.specs.Marks.{at, paired, verdict_added, EdgesFit, Reaching};
 ghost use Rattle.reach.specs.Columns.{Told, Placed, Filled};
 ghost use Rattle.reach.specs.Steps.{Seeded};
 
@@ -41,10 +41,9 @@ pub fn mark(goal: Goal, words: &[u64], steps: &[u16], masks: &mut [u16])
 {
     seed(goal, words, masks);
     sweep(goal.exits, goal.looks, steps, masks);
-    if !has(goal.looks, 2) {
-        return;
+    if has(goal.looks, 2) {
+        rise(goal.exits, goal.looks, steps, masks);
     }
-    rise(goal.exits, goal.looks, steps, masks);
 }
 
 // The verdict on a node at an entry, from verdict words, two for each entry. Internal: single verdicts are read here and written by `put_verdict`
@@ -78,7 +77,7 @@ fn with_verdict(word: u64, k: u8, on: bool) -> u64
     requires { (k < word_bits) × (word < 2 ^ k) }
     ensures { result ≡ verdict_added word k on }
 {
-    if on { with_bit(word, k) } else { word }
+    if on { word + (1 << k) } else { word }
 }
 
 // Bit k of w. Internal.
@@ -87,14 +86,6 @@ pub fn bit(w: u64, k: u8) -> bool
     ensures { result ≡ bit_of w k }
 {
     (w >> k) % 2 == 1
-}
-
-// w with bit k, which it has not yet.
-fn with_bit(w: u64, k: u8) -> u64
-    requires { (k < word_bits) × (w + 2 ^ k < 2 ^ word_bits) }
-    ensures { result ≡ w + 2 ^ k }
-{
-    w + (1 << k)
 }
 
 // A yes as it is, or turned round where it is not wanted. Internal.
@@ -109,17 +100,12 @@ fn seed(goal: Goal, words: &[u64], masks: &mut [u16])
     requires { (goal.node.0 < node_limit) × (length masks.old ≡ length (paired words.now)) }
     ensures { Seeded goal (paired words.now) (length (paired words.now)) masks.new }
 {
-    let mut i: usize = 0;
-    while i < masks.len() {
+    for (i, mask) in masks.iter_mut().enumerate() {
         let found = verdict(words, i, goal.node);
-        masks[i] = goal_mask(goal.accepting, facing(goal.want, found));
-        i += 1;
+        *mask = if facing(goal.want, found) {
+            goal.accepting
+        } else {
+            0
+        };
     }
-}
-
-// All accepting states, or none.
-fn goal_mask(accepting: u16, on: bool) -> u16
-    ensures { result ≡ pick on accepting 0 }
-{
-    if on { accepting } else { 0 }
 }

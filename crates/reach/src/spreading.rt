@@ -1,9 +1,9 @@
 // All entries: a sweep against the edges that go ahead; then, where edges go back, a cursor over the entries that are due.
-ghost use Rattle.std.specs.Prelude.{◌≡◌, true, ℕ, ◌+◌, ◌^◌, ◌≤◌, ◌<◌, length};
+ghost use Rattle.std.specs.Prelude.{◌≡◌, true, ℕ, ◌^◌, ◌≤◌, ◌<◌, length};
 ghost use Rattle.aldlf.specs.Constants.{entry_limit, state_limit};
 ghost use Rattle.reach.specs.Marks.{at};
 ghost use Rattle.reach.specs.Columns.{Placed};
-ghost use Rattle.reach.specs.Steps.{ahead_of, behind_of, next_of, Visited, Raised, Touched, Moves, all_due, swept_to, none_due, Turned};
+ghost use Rattle.reach.specs.Steps.{ahead_of, behind_of, Visited, Raised, Touched, Moves, all_due, swept_to, none_due, Turned};
 
 use super::closing::{Around, close};
 use super::steps::has;
@@ -30,9 +30,7 @@ pub(crate) fn sweep(exits: u16, looks: u16, steps: &[u16], masks: &mut [u16])
     ensures masks_len_unchanged { length masks.new ≡ length masks.old }
     ensures moves { Moves exits looks steps.now masks.old masks.new all_due (swept_to 0) }
 {
-    let mut i = masks.len();
-    while 0 < i {
-        i -= 1;
+    for i in (0..masks.len()).rev() {
         let v = Visit {
             exits,
             looks,
@@ -52,7 +50,7 @@ pub(crate) fn rise(exits: u16, looks: u16, steps: &[u16], masks: &mut [u16])
 {
     let n = masks.len();
     let mut todo = [BACK; aldlf::ENTRIES];
-    // nothing is due at the entries before `j`
+    // Nothing is due at the entries before `j`. A `while`, since the cursor also steps back.
     let mut j: usize = 0;
     while j < n {
         let v = Visit {
@@ -62,19 +60,8 @@ pub(crate) fn rise(exits: u16, looks: u16, steps: &[u16], masks: &mut [u16])
             entry: j,
         };
         let again = turn(v, steps, masks, &mut todo);
-        j = next_entry(again, j);
+        j = if again { j.saturating_sub(1) } else { j + 1 };
     }
-}
-
-// The entry to go to from entry j: back to the one before it, where that is due again.
-fn next_entry(again: bool, j: usize) -> usize
-    requires { j + 1 < 2 ^ 64 }
-    ensures { result ≡ next_of again j }
-{
-    if !again {
-        return j + 1;
-    }
-    if j == 0 { 0 } else { j - 1 }
 }
 
 // One entry's turn: visited for what is due; whether the entry before it is due again.
@@ -89,13 +76,7 @@ fn turn(v: Visit, steps: &[u16], masks: &mut [u16], todo: &mut [u16]) -> bool
         return false;
     }
     todo[i] = 0;
-    let now_due = Visit {
-        exits: v.exits,
-        looks: v.looks,
-        due,
-        entry: i,
-    };
-    if !visit_entry(now_due, steps, masks) {
+    if !visit_entry(Visit { due, ..v }, steps, masks) {
         return false;
     }
     let ahead = has(v.looks, 1);
@@ -125,11 +106,7 @@ fn ahead_of(masks: &[u16], exits: u16, i: usize) -> u16
     requires { i < length masks.now }
     ensures { result ≡ ahead_of masks.now exits i }
 {
-    if i + 1 < masks.len() {
-        masks[i + 1]
-    } else {
-        exits
-    }
+    masks.get(i + 1).copied().unwrap_or(exits)
 }
 
 // The mask of the entry before i, or the exits.
@@ -146,10 +123,8 @@ fn touch(ahead: bool, todo: &mut [u16], i: usize)
     ensures { Touched ahead i todo.old todo.new }
 {
     raise(BACK, todo, i + 1);
-    if ahead {
-        if 0 < i {
-            raise(AHEAD, todo, i - 1);
-        }
+    if ahead && 0 < i {
+        raise(AHEAD, todo, i - 1);
     }
 }
 
@@ -158,6 +133,6 @@ fn raise(flag: u16, todo: &mut [u16], j: usize)
     ensures { (g : ℕ) → g < state_limit → flag ≡ 2 ^ g → Raised g j todo.old todo.new }
 {
     if j < todo.len() {
-        todo[j] = todo[j] | flag;
+        todo[j] |= flag;
     }
 }

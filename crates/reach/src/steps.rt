@@ -10,41 +10,36 @@ ghost use Rattle.reach.specs.Columns.{group_of, column_of, Pulled, Held, Apart, 
 use super::verdict;
 use aldlf::Node;
 
-// The states with a step into the mask, by the 16 columns from a place on. Most automata have few states: then four columns are enough.
+// The states with a step into the mask, by the 16 columns from a place on. Most automata have few states: then four columns are enough. Where all are
+// due, each is read, and taken or not with no branch, so that the machine takes many at a time.
 pub(crate) fn pull(steps: &[u16], place: usize, mask: u16) -> u16
     requires { place + state_limit ≤ length steps.now }
     ensures { Pulled steps.now place mask state_limit result }
 {
     if mask < 16 {
-        return pull_of(4, steps, place, mask);
+        return pull_four(steps, place, mask);
     }
-    pull_of(16, steps, place, mask)
+    let mut found: u16 = 0;
+    for t in 0..16 {
+        let column = steps[place + t as usize];
+        found |= if has(mask, t) { column } else { 0 };
+    }
+    found
 }
 
-// The same by the first columns alone.
-fn pull_of(count: u16, steps: &[u16], place: usize, mask: u16) -> u16
-    requires { (count ≤ state_limit) × (place + state_limit ≤ length steps.now) }
-    ensures { Pulled steps.now place mask count result }
+// The same by the first four columns alone. A column that leads to no state of the mask is not read, and most do not: here that is faster.
+fn pull_four(steps: &[u16], place: usize, mask: u16) -> u16
+    requires { place + state_limit ≤ length steps.now }
+    ensures { Pulled steps.now place mask 4 result }
 {
     if mask == 0 {
         return 0;
     }
     let mut found: u16 = 0;
-    let mut t: u16 = 0;
-    while t < count {
-        found = with_column(found, steps, place + t as usize, has(mask, t));
-        t += 1;
-    }
-    found
-}
-
-// The mask with a column's states where it is on; else the column is not read, and most are not.
-fn with_column(found: u16, steps: &[u16], place: usize, on: bool) -> u16
-    requires { place < length steps.now }
-    ensures { result ≡ pick on (bit_or found (at steps.now place)) found }
-{
-    if on {
-        return found | steps[place];
+    for t in 0..4 {
+        if has(mask, t) {
+            found |= steps[place + t as usize];
+        }
     }
     found
 }
@@ -83,11 +78,7 @@ fn clear(place: usize, steps: &mut [u16])
     ensures apart { Apart place (place + 48) steps.old steps.new }
     ensures by_index { (c : ℕ) → c < 48 → at steps.new (place + c) ≡ 0 }
 {
-    let mut c: usize = 0;
-    while c < 48 {
-        steps[place + c] = 0;
-        c += 1;
-    }
+    steps[place..place + 48].fill(0);
 }
 
 // The steps of all edges at the entry, where there were none.
@@ -98,10 +89,8 @@ fn add_edges(edges: &[u32], words: &[u64], i: usize, place: usize, steps: &mut [
     ensures apart { Apart place (place + 48) steps.old steps.new }
     ensures held { Held edges.now (at (paired words.now) i) (length edges.now) steps.new place }
 {
-    let mut e: usize = 0;
-    while e < edges.len() {
-        add_edge(edges[e], words, i, place, steps);
-        e += 1;
+    for &p in edges {
+        add_edge(p, words, i, place, steps);
     }
 }
 
@@ -116,14 +105,7 @@ fn add_edge(p: u32, words: &[u64], i: usize, place: usize, steps: &mut [u16])
     let from = one_bit((p % 256) as u16);
     let on = verdict(words, i, Node((p / 65536 % 256) as u8));
     let old = steps[c];
-    steps[c] = chosen(on, old | from, old);
-}
-
-// The first mask where it is on, the second where not.
-fn chosen(on: bool, yes: u16, no: u16) -> u16
-    ensures { result ≡ pick on yes no }
-{
-    if on { yes } else { no }
+    steps[c] = if on { old | from } else { old };
 }
 
 // The column of edge p among its entry's 48.
@@ -140,13 +122,11 @@ fn column_of(p: u32) -> usize
 pub(crate) fn group_of(dir: u8) -> u16
     ensures { (result ≡ group_of dir) × (result < 3) }
 {
-    if dir == 0 {
-        return 0;
+    match dir {
+        0 => 0,
+        1 => 1,
+        _ => 2,
     }
-    if dir == 1 {
-        return 1;
-    }
-    2
 }
 
 // Several steps that stay, as one.
@@ -154,10 +134,8 @@ fn join(place: usize, steps: &mut [u16])
     requires { place + state_limit ≤ length steps.old }
     ensures { Joined steps.old place state_limit steps.new }
 {
-    let mut k: u16 = 0;
-    while k < 16 {
+    for k in 0..16 {
         pivot(k, place, steps);
-        k += 1;
     }
 }
 
@@ -170,10 +148,8 @@ fn pivot(k: u16, place: usize, steps: &mut [u16])
     if into == 0 {
         return;
     }
-    let mut u: usize = 0;
-    while u < 16 {
-        let x = steps[place + u];
-        steps[place + u] = chosen(has(x, k), x | into, x);
-        u += 1;
+    for u in place..place + 16 {
+        let x = steps[u];
+        steps[u] = if has(x, k) { x | into } else { x };
     }
 }

@@ -10,7 +10,7 @@ use lib.ListN.{length}
 use lib.Dec.{eqb, ltb, leb}
 use Rattle.text.specs.Text.{lines, byte_limit, ends_in_lf, fields}
 use Rattle.sheet.specs.Questions as sheet
-use Rattle.sheet.specs.declared.SheetAnswer.{SheetAnswer}
+use Rattle.sheet.specs.Answers.{SheetAnswer}
 use Rattle.sheet.proofs.Fields.{field_right}
 use Rattle.report.proofs.Numbers.{Reading}
 

@@ -10,6 +10,9 @@ use lib.ListN.{length, take, drop, replicate, length-append, length-take, length
 use lib.Seq.{take_at}
 use lib.Dec.{eqb, leb}
 use Rattle.aldlf.specs.Constants.{entry_limit}
+use Rattle.std.specs.Prelude.{Result, Ok, Err, IsOk}
+use Rattle.aldlf.specs.Refusals.{refusal_number}
+use Rattle.aldlf.specs.declared.Refusal.{Refusal}
 use Rattle.aldlf.specs.Sheet.{sheet_of}
 use Rattle.aldlf.specs.Outcomes.{log_fits, whole_number, whole_outcome}
 use Rattle.aldlf.specs.Walks.{Shown, edges_of, walk_of, walk_outcome}
@@ -26,7 +29,6 @@ use Rattle.joblog.specs.Log.{LogRead, entries, refused, read_log}
 use Rattle.joblog.proofs.Answers.{Sound, sound_log}
 use Rattle.lines.specs.Lines.{refusal_line, verdict_lines, walk_line, no_walk_line}
 use Rattle.report.specs.Page.{lent_words, walk_limit, page_limit, rule_of, refused_walk, shown_line, walk_page, judged_page, table_page, log_page, rule_page, page_of, printed_of, page_outcome}
-use Rattle.report.specs.declared.PageAnswer.{PageAnswer}
 use Rattle.lines.proofs.Lengths.{refusal_length, sheet_refusal_length, verdicts_length, walk_length}
 use Rattle.appending.specs.Placed.{Printed, placed}
 use Rattle.appending.proofs.Placed.{placed_fits, placed-count}
@@ -123,9 +125,20 @@ page_never_refused rules steps lent h e =
     absurd (omega arith)
 
 -- what a caller may take from an answer: the bytes are within the buffer, and within the limit
-pub page_bytes : (rules steps lent after : List ℕ) (r : PageAnswer) → printed_of r after ≡ page_outcome rules steps lent → (r.bytes ≤ length lent) × (r.bytes ≤ page_limit)
+pub page_bytes : (rules steps lent after : List ℕ) (r : Result ℕ Refusal) → printed_of r after ≡ page_outcome rules steps lent
+    → ((printed_of r after).count ≤ length lent) × ((printed_of r after).count ≤ page_limit)
 unfolding page_outcome
 page_bytes rules steps lent after r e =
-    let c : r.bytes ≡ (placed 44 (page_of rules steps) lent).count = ap (λ (p : Printed). p.count) e in
+    let c : (printed_of r after).count ≡ (placed 44 (page_of rules steps) lent).count = ap (λ (p : Printed). p.count) e in
     let (room, all) = placed-count 44 (page_of rules steps) lent in
     (omega arith, omega (arith, page_fits rules steps))
+
+-- and of a buffer that takes every page: there is no refusal
+pub page_ok : (rules steps lent after : List ℕ) (r : Result ℕ Refusal) → page_limit ≤ length lent → printed_of r after ≡ page_outcome rules steps lent → IsOk r
+page_ok rules steps lent after (Ok n) h e = refl
+page_ok rules steps lent after (Err r) h e =
+    let z : refusal_number r ≡ 0 = ap (λ (p : Printed). p.number) (e ∙ page_whole rules steps lent h) in
+    absurd (grind arith)
+
+pub page_few : (rules steps lent after : List ℕ) (r : Result ℕ Refusal) (n : ℕ) → r ≡ Ok n → printed_of r after ≡ page_outcome rules steps lent → n ≤ length lent
+page_few rules steps lent after r n s e = (page_bytes rules steps lent after (Ok n) (ap (λ (x : Result ℕ Refusal). printed_of x after) (sym s) ∙ e)).0

@@ -19,7 +19,7 @@ use Rattle.aldlf.proofs.Bools.{bool_cases, lt-or-le}
 use Rattle.aldlf.proofs.Shortest.{best_of}
 use Rattle.text.specs.Text.{lf, lines, glue, byte_limit, ends_in_lf, fields}
 use Rattle.sheet.specs.Questions as sheet
-use Rattle.sheet.specs.declared.SheetAnswer.{SheetAnswer}
+use Rattle.sheet.specs.Answers.{SheetAnswer}
 use Rattle.sheet.specs.Ranges.{a_count}
 use Rattle.sheet.specs.Facts.{TableFacts}
 use Rattle.sheet.proofs.Fields.{question_right}

@@ -1,12 +1,15 @@
 -- The page's definitions in the terms of the code's tests: a sheet as it was read, a walk not shown.
 use Prim.Native.Nat.{ℕ}
-use mathlib.Core.Path.{◌≡◌}
+use mathlib.Core.Path.{◌≡◌, refl}
 use mathlib.Core.Logic.{◌⊎◌, inl, inr}
 use mathlib.Core.List.{List}
 use borrow.Author.Tests.{eq-eqb, ne_eqb}
 use Rattle.lines.specs.Lines.{refusal_line, sheet_refusal_line, no_walk_line}
-use Rattle.sheet.specs.declared.SheetAnswer.{SheetAnswer}
+use Rattle.sheet.specs.Answers.{SheetAnswer}
 use Rattle.report.specs.Page.{refused_walk, rule_page, sheet_page}
+use Rattle.aldlf.specs.Refusals.{refusal_number}
+use Rattle.aldlf.specs.declared.Refusal.{Refusal}
+use Rattle.aldlf.specs.declared.Refusal.TheVariants.{NoBearer, NotGiven, Entries, Room, OtherWay, NoNode, NoEntry, NotModal, NoWalk, WalkRoom, ProfileRoom, PageRoom, TextRoom}
 
 -- a sheet as read: the line of its refusal, or the page by its table
 module _ (a : SheetAnswer) (steps : List ℕ) where
@@ -24,6 +27,18 @@ unfolding refused_walk
 refused_none number (inl e) = rw e
 refused_none number (inr e) = rw e
 
-pub refused_other : (number : ℕ) → (number ≡ 38 → ⊥) → (number ≡ 39 → ⊥) → refusal_line number 0 ≡ refused_walk number
+pub refused_other : (r : Refusal) → (r ≡ NotModal → ⊥) → (r ≡ NoWalk → ⊥) → refusal_line (refusal_number r) 0 ≡ refused_walk (refusal_number r)
 unfolding refused_walk
-refused_other number a b = rw (ne_eqb number 38 a, ne_eqb number 39 b)
+refused_other NoBearer a b = refl
+refused_other NotGiven a b = refl
+refused_other Entries a b = refl
+refused_other Room a b = refl
+refused_other OtherWay a b = refl
+refused_other NoNode a b = refl
+refused_other NoEntry a b = refl
+refused_other NotModal a b = absurd (a refl)
+refused_other NoWalk a b = absurd (b refl)
+refused_other WalkRoom a b = refl
+refused_other ProfileRoom a b = refl
+refused_other PageRoom a b = refl
+refused_other TextRoom a b = refl

@@ -1,16 +1,17 @@
 -- The printed page of document 01, over the defined outcomes of the calls: the sheet is read, then the log, then the log is judged, then the rule's walk is shown.
-use Rattle.std.specs.Prelude.{ℕ, zero, suc, ◌*◌, ◌-◌, cond, ◌||◌, List, ◌++◌, length, take, replicate, eqb}
+use Rattle.std.specs.Prelude.{Result, Ok, Err, ℕ, zero, suc, ◌*◌, ◌-◌, cond, ◌||◌, List, ◌++◌, length, take, replicate, eqb}
 use Rattle.aldlf.specs.Constants.{entry_limit}
+use Rattle.aldlf.specs.Refusals.{refusal_number}
+use Rattle.aldlf.specs.declared.Refusal.{Refusal}
 use Rattle.aldlf.specs.Sheet.{sheet_of}
 use Rattle.aldlf.specs.Outcomes.{Whole, whole_outcome}
 use Rattle.aldlf.specs.Walks.{Shown, walk_outcome}
 use Rattle.aldlf.specs.declared.Table.{Table}
 use Rattle.joblog.specs.Log.{LogRead, entries, refused, read_log}
-use Rattle.sheet.specs.declared.SheetAnswer.{SheetAnswer}
+use Rattle.sheet.specs.Answers.{SheetAnswer}
 use Rattle.sheet.specs.Questions.{read_sheet}
 use Rattle.sheet.specs.Given.{well_formed}
 use Rattle.appending.specs.Placed.{Printed, placed}
-use Rattle.report.specs.declared.PageAnswer.{PageAnswer}
 use Rattle.lines.specs.Lines.{refusal_line, sheet_refusal_line, verdict_lines, walk_line, no_walk_line}
 
 -- the longest shortest walk: states times entries less one edges
@@ -75,9 +76,10 @@ sheet_page a steps = cond (eqb a.number 0) (rule_page a.table steps) (sheet_refu
 unfoldable pub page_of : (rules steps : List ℕ) → List ℕ
 page_of rules steps = sheet_page (read_sheet rules) steps
 
--- what printing a page answers
-abbrev pub printed_of : PageAnswer → List ℕ → Printed
-printed_of r buffer = record { number = r.number; count = r.bytes; buffer = buffer }
+-- what printing a page answers: how many bytes, or a refusal by its number, with no byte
+abbrev pub printed_of : Result ℕ Refusal → List ℕ → Printed
+printed_of (Ok n) buffer = record { number = 0; count = n; buffer = buffer }
+printed_of (Err r) buffer = record { number = refusal_number r; count = 0; buffer = buffer }
 
 -- printing the page of a sheet and a log: one that does not fit is refused by 44
 unfoldable pub page_outcome : (rules steps lent : List ℕ) → Printed

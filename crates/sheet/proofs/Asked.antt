@@ -15,7 +15,7 @@ use Rattle.aldlf.specs.Sheet.{bit, no_line}
 use Rattle.aldlf.specs.declared.NodeLine.{NodeLine}
 use Rattle.sheet.specs.declared.line.Line.{Line}
 use Rattle.sheet.specs.declared.build.Reading.{Reading}
-use Rattle.sheet.specs.declared.ranges.Stop.{Stop}
+use Rattle.sheet.specs.Answers.{Stop}
 use Rattle.sheet.specs.Ranges.{stop_at, going_on, out_of_range}
 use Rattle.sheet.specs.Questions.{known_line, all_numbers, room_left, belongs, last, newly_accepting, plain_node, plain_from, plains, plain_step, question}
 

@@ -29,6 +29,13 @@ pub edge_on : (s n i : ℕ) (l : List Edge) → 0 < n → i < length l → some_
 unfolding some_edge
 edge_on s n i l h k = rw (part_on n i l no_edge h k)
 
+-- the same where the edges end before number k
+pub edge_next : (s k i : ℕ) (l : List Edge) → i < k → i < length l → some_edge s (take (k - i) (drop i l)) ≡ (stands_on s (get_or l i no_edge) || some_edge s (take (k - (i + 1)) (drop (i + 1) l)))
+edge_next s k i l h w = edge_on s (k - i) i l (omega arith) w ∙ ap (λ (n : ℕ). stands_on s (get_or l i no_edge) || some_edge s (take n (drop (i + 1) l))) e
+  where
+    e : k - i - 1 ≡ k - (i + 1)
+    e = omega arith
+
 pub edge_out : (s n i : ℕ) (l : List Edge) → length l ≤ i → false ≡ some_edge s (take n (drop i l))
 unfolding some_edge
 edge_out s n i l h = rw (part_out n i l h)

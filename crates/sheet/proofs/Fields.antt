@@ -11,8 +11,7 @@ use borrow.Author.Tests.{eqb-false}
 use Rattle.text.specs.Text.{byte_limit, lines, fields, ends_in_lf}
 use Rattle.sheet.specs.declared.line.Line.{Line}
 use Rattle.sheet.specs.declared.build.Reading.{Reading}
-use Rattle.sheet.specs.declared.ranges.Stop.{Stop}
-use Rattle.sheet.specs.declared.SheetAnswer.{SheetAnswer}
+use Rattle.sheet.specs.Answers.{Stop, SheetAnswer}
 use Rattle.sheet.specs.Ranges.{a_fact, a_count, is_of_kind, kinds, numbers_of, stop_at, going_on, out_of_range}
 use Rattle.sheet.specs.Questions.{parsed, known_line, all_numbers, room_left, belongs, last, newly_accepting, plain_step, question, added, start, refused_by, refused, whole_of, finish, read_lines, read_sheet}
 use Rattle.sheet.specs.Fields.{added_all, Leftmost, FieldRight}

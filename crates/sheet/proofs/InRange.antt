@@ -12,7 +12,7 @@ use Rattle.aldlf.specs.Constants.{letter_p, letter_n, letter_a, letter_o, letter
 use Rattle.aldlf.specs.declared.Automaton.{Automaton}
 use Rattle.aldlf.specs.declared.Used.{Used}
 use Rattle.sheet.specs.declared.line.Line.{Line}
-use Rattle.sheet.specs.declared.ranges.Stop.{Stop}
+use Rattle.sheet.specs.Answers.{Stop}
 use Rattle.sheet.specs.Ranges.{a_fact, a_count, is_of_kind, kinds, numbers_of, states_on, stop_at, going_on, first_wrong, out_of_range}
 use Rattle.sheet.proofs.Bools.{both}
 

@@ -4,9 +4,11 @@ pub mod Words
 pub mod Letters
 pub mod Parse
 pub mod Asked
+pub mod Stops
 pub mod Added
 pub mod Closed
 pub mod Fits
+pub mod Zeros
 pub mod Lent
 pub mod InRange
 pub mod Passed

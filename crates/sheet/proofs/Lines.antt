@@ -8,7 +8,7 @@ use borrow.Author.Tests.{ne_eqb, le-leb, lt-leb}
 use Rattle.text.specs.Text.{byte_limit, lines, fields, ends_in_lf}
 use Rattle.text.proofs.Lines.{lines_end}
 use Rattle.sheet.specs.declared.build.Reading.{Reading}
-use Rattle.sheet.specs.declared.ranges.Stop.{Stop}
+use Rattle.sheet.specs.Answers.{Stop}
 use Rattle.sheet.specs.Questions.{parsed, question, added, start, refused_by, refused, finish, read_lines, read_sheet}
 
 pub read_on : (r : Reading) (k : ℕ) (l : List ℕ) (ls : List (List ℕ)) → (question r (parsed (fields l))).number ≡ 0 → read_lines r k (l ∷ ls) ≡ read_lines (added r (k + 1) (parsed (fields l))) (k + 1) ls

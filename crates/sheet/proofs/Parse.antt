@@ -7,7 +7,8 @@ use native.Mathlib.Omega.{arith}
 use lib.ListN.{length, get_or, take, drop}
 use lib.Seq.{drop-drop}
 use borrow.Author.Tests.{lt-ltb, le-ltb, le-leb, lt-leb}
-use Rattle.text.specs.Text.{comma, fields, up_to, CutOf}
+use Rattle.std.proofs.Common.{unwrap_or}
+use Rattle.text.specs.Text.{not_number, comma, fields, up_to, CutOf}
 use Rattle.text.specs.declared.Cut.{Cut}
 use Rattle.text.proofs.Fields.{fields_from, fields_start, fields_step}
 use Rattle.sheet.specs.declared.line.Line.{Line}
@@ -108,7 +109,7 @@ line-by l p f₁ f₂ f₃ f₄ f₅ e e₂ e₃ e₄ e₅ =
     rw (e, e₂, d₃, d₄, d₅) (by_go p f₁)
 
 -- a field that is there, by its cut
-pub field_some : (l : List ℕ) (at : ℕ) (c : Cut) (s : List ℕ) → at < length l → s ≡ drop (at + 1) l → CutOf s c → FieldAfter l at (record { there = 1; value = c.value; end = at + 1 + c.end })
+pub field_some : (l : List ℕ) (at : ℕ) (c : Cut) (s : List ℕ) → at < length l → s ≡ drop (at + 1) l → CutOf s c → FieldAfter l at (record { there = 1; value = unwrap_or c.value not_number; end = at + 1 + c.end })
 field_some l at c s h e k =
     let f = after_some l at c.end h (k.at ∙ ap (up_to comma) e) in
     record {

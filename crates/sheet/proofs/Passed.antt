@@ -14,7 +14,7 @@ use Rattle.aldlf.specs.declared.Table.{Table}
 use Rattle.text.specs.Text.{number}
 use Rattle.sheet.specs.declared.line.Line.{Line}
 use Rattle.sheet.specs.declared.build.Reading.{Reading}
-use Rattle.sheet.specs.declared.ranges.Stop.{Stop}
+use Rattle.sheet.specs.Answers.{Stop}
 use Rattle.sheet.specs.Ranges.{a_fact, a_node, an_automaton, a_state, a_direction, a_count, is_of_kind, kinds, numbers_of, states_on, stop_at, going_on, out_of_range}
 use Rattle.sheet.specs.Questions.{parsed, arity, known_line, all_numbers, room_left, belongs, last, newly_accepting, plain_step, question}
 use Rattle.sheet.proofs.Bools.{both}

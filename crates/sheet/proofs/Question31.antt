@@ -12,8 +12,7 @@ use Rattle.aldlf.specs.declared.Table.{Table}
 use Rattle.text.specs.Text.{byte_limit, lines, fields, ends_in_lf}
 use Rattle.text.proofs.Lines.{lines_step}
 use Rattle.sheet.specs.declared.build.Reading.{Reading}
-use Rattle.sheet.specs.declared.ranges.Stop.{Stop}
-use Rattle.sheet.specs.declared.SheetAnswer.{SheetAnswer}
+use Rattle.sheet.specs.Answers.{Stop, SheetAnswer}
 use Rattle.sheet.specs.Questions.{parsed, question, added, start, accepted, refused_by, refused, whole_of, finish, read_lines, read_sheet}
 use Rattle.sheet.specs.Given.{Given, well_formed}
 use Rattle.sheet.proofs.Bools.{same}

@@ -9,7 +9,7 @@ use Rattle.text.specs.Text.{byte_limit, lines, fields, ends_in_lf, line_at}
 use Rattle.text.proofs.Lines.{lines_at, line_inside}
 use Rattle.sheet.specs.declared.line.Line.{Line}
 use Rattle.sheet.specs.declared.build.Reading.{Reading}
-use Rattle.sheet.specs.declared.ranges.Stop.{Stop}
+use Rattle.sheet.specs.Answers.{Stop}
 use Rattle.sheet.specs.Questions.{parsed, question, added, start, refused_by, finish, read_lines, read_sheet}
 use Rattle.sheet.specs.Room.{LineRoom}
 use Rattle.sheet.proofs.Passed.{passed, absent}

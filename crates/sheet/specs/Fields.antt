@@ -3,7 +3,7 @@ use Rattle.std.specs.Prelude.{ℕ, ◌+◌, ◌-◌, ◌≤◌, ◌<◌, ◌≡�
 use Rattle.text.specs.Text.{lines, fields}
 use Rattle.sheet.specs.declared.line.Line.{Line}
 use Rattle.sheet.specs.declared.build.Reading.{Reading}
-use Rattle.sheet.specs.declared.SheetAnswer.{SheetAnswer}
+use Rattle.sheet.specs.Answers.{SheetAnswer}
 use Rattle.sheet.specs.Ranges.{a_fact, a_count, is_of_kind, kinds, numbers_of, states_on}
 use Rattle.sheet.specs.Questions.{parsed, last, added, start}
 

@@ -10,8 +10,7 @@ use Rattle.aldlf.specs.declared.Table.{Table}
 use Rattle.text.specs.Text.{lines, fields, ends_in_lf, number, byte_limit, not_number}
 use Rattle.sheet.specs.declared.line.Line.{Line}
 use Rattle.sheet.specs.declared.build.Reading.{Reading}
-use Rattle.sheet.specs.declared.ranges.Stop.{Stop}
-use Rattle.sheet.specs.declared.SheetAnswer.{SheetAnswer}
+use Rattle.sheet.specs.Answers.{Stop, SheetAnswer}
 use Rattle.sheet.specs.Ranges.{going_on, stop_at, out_of_range}
 
 -- The letter of a line's first field: its one byte; 0 for a field of another length.

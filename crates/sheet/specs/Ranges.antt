@@ -4,7 +4,7 @@ use Rattle.aldlf.specs.Constants.{state_limit, fact_limit, letter_p, letter_n, l
 use Rattle.aldlf.specs.declared.Automaton.{Automaton}
 use Rattle.aldlf.specs.declared.Used.{Used}
 use Rattle.sheet.specs.declared.line.Line.{Line}
-use Rattle.sheet.specs.declared.ranges.Stop.{Stop}
+use Rattle.sheet.specs.Answers.{Stop}
 
 -- The kinds, each by the number of its refusal, and which numbers are of the kind: a fact;
 abbrev pub a_fact : ℕ

@@ -6,7 +6,7 @@ use Rattle.aldlf.specs.declared.Used.{Used}
 use Rattle.text.specs.Text.{fields}
 use Rattle.sheet.specs.declared.line.Line.{Line}
 use Rattle.sheet.specs.declared.line.Field.{Field}
-use Rattle.sheet.specs.declared.ranges.Stop.{Stop}
+use Rattle.sheet.specs.Answers.{Stop}
 use Rattle.sheet.specs.Ranges.{a_node, a_state, a_direction, is_of_kind, first_wrong}
 use Rattle.sheet.specs.Questions.{last, number_at}
 

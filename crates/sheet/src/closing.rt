@@ -5,35 +5,29 @@ ghost use Rattle.aldlf.specs.declared.Table.{Table};
 ghost use Rattle.packing.specs.Numbers.{places, lent_used};
 ghost use Rattle.packing.specs.Packed.{Packed};
 ghost use Rattle.sheet.specs.Questions.{stands_on, some_edge, edges_of, each_state, whole_of, finish};
+ghost use Rattle.sheet.specs.Outcomes.{answer_of};
 
 use super::build::Reading;
-use super::{SheetAnswer, refusal};
-use aldlf::{Automaton, Edge};
+use super::{SheetQuestion, SheetRefusal, refusal};
+use aldlf::{Automaton, Edge, Table};
 use packing::places::{automaton_at, edge_at, used_in};
 
 // The answer after the last line, which is line k.
-pub(crate) fn finish_of(r: Reading, k: u16) -> SheetAnswer
+pub(crate) fn finish_of(r: Reading, k: u16) -> Result<Table, SheetRefusal>
     requires { r.table.used.automata ≤ automaton_limit }
-    ensures { result ≡ finish r k }
+    ensures { answer_of result ≡ finish r k }
 {
     let t = r.table;
     let mut numbers = [0u32; packing::places::PLACES];
     packing::writing::pack(t, &mut numbers);
     let w = whole_of(&numbers);
     if w < t.used.automata {
-        let i = w as usize;
-        let line = r.mlines[i];
-        return refusal(10, line);
+        return Err(refusal(SheetQuestion::Whole, r.mlines[w as usize]));
     }
     if r.inside {
-        return refusal(11, k);
+        return Err(refusal(SheetQuestion::LastLine, k));
     }
-    SheetAnswer {
-        number: 0,
-        line: 0,
-        field: 0,
-        table: t,
-    }
+    Ok(t)
 }
 
 // How many automata stand before the first one that has a state on no edge of its own.
@@ -42,15 +36,12 @@ pub(crate) fn whole_of(numbers: &[u32]) -> u8
     ensures { ((t : Table) → Packed t numbers.now → result ≡ whole_of t) × (result ≤ automaton_limit) }
 {
     let used = used_in(numbers);
-    let mut m: u8 = 0;
-    while m < used.automata {
-        let x = automaton_at(numbers, m);
-        if !each_state(numbers, x) {
+    for m in 0..used.automata {
+        if !each_state(numbers, automaton_at(numbers, m)) {
             return m;
         }
-        m += 1;
     }
-    m
+    used.automata
 }
 
 // Whether each state of the automaton stands on one of its edges.
@@ -58,12 +49,10 @@ fn each_state(numbers: &[u32], x: Automaton) -> bool
     requires { length numbers.now ≡ places }
     ensures { (t : Table) → Packed t numbers.now → result ≡ each_state (edges_of t.edges x) x.states }
 {
-    let mut s: u8 = 0;
-    while s < x.states {
+    for s in 0..x.states {
         if !some_edge(numbers, x, s) {
             return false;
         }
-        s += 1;
     }
     true
 }
@@ -73,18 +62,11 @@ fn some_edge(numbers: &[u32], x: Automaton, s: u8) -> bool
     requires { length numbers.now ≡ places }
     ensures { (t : Table) → Packed t numbers.now → result ≡ some_edge s (edges_of t.edges x) }
 {
-    let mut i: u16 = x.first;
-    let mut left: u16 = x.count;
-    while 0 < left {
-        if aldlf::EDGES as u16 <= i {
-            return false;
-        }
-        let e = edge_at(numbers, i);
-        if stands_on(s, e) {
+    let end = x.first as usize + x.count as usize;
+    for i in x.first as usize..end.min(aldlf::EDGES) {
+        if stands_on(s, edge_at(numbers, i as u16)) {
             return true;
         }
-        i += 1;
-        left -= 1;
     }
     false
 }

@@ -9,42 +9,79 @@ mod line;
 mod questions;
 mod ranges;
 
-ghost use Rattle.std.specs.Prelude.{◌≡◌, length};
+ghost use Rattle.std.specs.Prelude.{◌≡◌, length, Err};
 ghost use Rattle.aldlf.specs.declared.Table.{Table};
 ghost use Rattle.packing.specs.Numbers.{places};
 ghost use Rattle.packing.specs.Packed.{Packed};
 ghost use Rattle.sheet.specs.Questions.{read_sheet, refused_by, refused};
+ghost use Rattle.sheet.specs.Outcomes.{question_number, stop_by, answer_of};
 ghost use Rattle.sheet.specs.Given.{well_formed};
 
 use aldlf::Table;
 use build::{added_to, start_reading};
 use closing::finish_of;
-use empty::empty_table;
 use line::parse_line;
 use questions::question_of;
-use ranges::{Stop, stop_at};
+use ranges::Stop;
 
-// What a sheet reads to. Number 0: its table, line 0 and field 0. Else the number of the first question that gets a no, the line
-// that it is about (counted from 1; 0 where it is about none), the field (71 to 76: the leftmost that is out of range, the letter
-// being field 1; else 0), and a table all zeros.
-#[derive(Clone, Copy)]
-pub struct SheetAnswer {
-    pub number: u8,
+// The questions of document 01 that a sheet is asked, each with its number there.
+#[derive(Clone, Copy, PartialEq, Eq)]
+pub enum SheetQuestion {
+    // A sheet has at most so many bytes, and ends in LF.
+    Bytes = 1,
+    LastByte = 2,
+    // A line has a letter of the table and that letter's number of fields; the other fields are numbers.
+    Known = 3,
+    Numbers = 4,
+    // There is room for one more node, automaton or edge.
+    Room = 5,
+    // The line before a G or E line is M, G or E.
+    Inside = 6,
+    // Question 7 by the kind of the field that is out of range.
+    Fact = 71,
+    Node = 72,
+    Automaton = 73,
+    State = 74,
+    Direction = 75,
+    Count = 76,
+    // A state accepts once.
+    Accepting = 8,
+    // The node of an edge ahead or back is built on no D or B.
+    Plain = 9,
+    // Each state stands on an edge of its automaton.
+    Whole = 10,
+    // The last line is a node.
+    LastLine = 11,
+}
+
+impl SheetQuestion {
+    // The question's number.
+    pub fn number(self) -> u8
+        ensures { result ≡ question_number self }
+    {
+        self as u8
+    }
+}
+
+// Why a sheet is refused: the first question that gets a no, the line that it is about (counted from 1; 0 where it is about none),
+// and the field (71 to 76: the leftmost that is out of range, the letter being field 1; else 0).
+#[derive(Clone, Copy, PartialEq, Eq)]
+pub struct SheetRefusal {
+    pub question: SheetQuestion,
     pub line: u16,
     pub field: u8,
-    pub table: Table,
 }
 
 // The sheet's table, or the first question that gets a no, and the line and the field it is about.
-// The text is read in one pass: a line is asked and added before the next is looked at.
-pub fn read_sheet(text: &[u8]) -> SheetAnswer
-    ensures { result ≡ read_sheet text.now }
+// The text is read in one pass: a line is asked and added before the next is looked at, and where the next starts is known only then.
+pub fn read_sheet(text: &[u8]) -> Result<Table, SheetRefusal>
+    ensures { answer_of result ≡ read_sheet text.now }
 {
     if text::BYTES < text.len() {
-        return refusal(1, 0);
+        return Err(refusal(SheetQuestion::Bytes, 0));
     }
     if !text::ends_in_lf(text) {
-        return refusal(2, 0);
+        return Err(refusal(SheetQuestion::LastByte, 0));
     }
     let mut r = start_reading();
     let mut k: u16 = 0;
@@ -53,12 +90,11 @@ pub fn read_sheet(text: &[u8]) -> SheetAnswer
         let line = text::line_at(text, at);
         let l = parse_line(line);
         k += 1;
-        let q = question_of(r, l);
-        if q.number != 0 {
-            return refusal_by(q, k);
+        if let Err(stop) = question_of(&r, l) {
+            return Err(refusal_by(stop, k));
         }
         r = added_to(r, k, l);
-        at = at + line.len() + 1;
+        at += line.len() + 1;
     }
     finish_of(r, k)
 }
@@ -80,22 +116,24 @@ pub fn is_given_packed(numbers: &[u32]) -> bool
     given::well_formed(numbers)
 }
 
-// The answer that question `number`, which is about no field, gets a no at a line.
-pub(crate) fn refusal(number: u8, line: u16) -> SheetAnswer
-    ensures { result ≡ refused number line }
+// The refusal of a line by a question that is about no field.
+pub(crate) fn refusal(question: SheetQuestion, line: u16) -> SheetRefusal
+    ensures { answer_of (Err result) ≡ refused (question_number question) line }
 {
-    refusal_by(stop_at(number, 0), line)
+    SheetRefusal {
+        question,
+        line,
+        field: 0,
+    }
 }
 
-// The answer that reading stops at a line.
-fn refusal_by(stop: Stop, line: u16) -> SheetAnswer
-    ensures { result ≡ refused_by stop line }
+// The refusal of a line by what stops the reading there.
+fn refusal_by(stop: Stop, line: u16) -> SheetRefusal
+    ensures { answer_of (Err result) ≡ refused_by (stop_by stop) line }
 {
-    let t = empty_table();
-    SheetAnswer {
-        number: stop.number,
+    SheetRefusal {
+        question: stop.question,
         line,
         field: stop.field,
-        table: t,
     }
 }

@@ -4,8 +4,11 @@ ghost use Rattle.text.specs.Text.{fields};
 ghost use Rattle.sheet.specs.Questions.{letter_of, parsed};
 ghost use Rattle.sheet.specs.Room.{FieldAfter};
 
+// Stands in a line for what is no number, as in `parsed`: question 4 is asked of the whole line, after question 3.
+pub(crate) const NOT_NUMBER: u16 = 1000;
+
 // A line: its letter (0 for none), how many fields follow it (5 for more than four), and the first four of those as numbers
-// (text::NOT_NUMBER for what is none, 0 for a field that is not there).
+// (NOT_NUMBER for what is none, 0 for a field that is not there).
 #[derive(Clone, Copy)]
 pub(crate) struct Line {
     pub(crate) letter: u8,
@@ -16,7 +19,8 @@ pub(crate) struct Line {
     pub(crate) d: u16,
 }
 
-// The field after a comma, if there is one (`there` is 1): it as a number, and where it ends.
+// The field after a comma, if there is one (`there` is 1): it as a number, and where it ends. No Option, which would be no plainer:
+// of a field that is not there the line takes the count 0 and the number 0, and the next is looked for at the same place.
 #[derive(Clone, Copy)]
 pub(crate) struct Field {
     pub(crate) there: u8,
@@ -48,10 +52,10 @@ pub(crate) fn parse_line(s: &[u8]) -> Line
 fn letter_of(s: &[u8]) -> u8
     ensures { result ≡ letter_of s.now }
 {
-    if s.len() == 1 {
-        return s[0];
+    match s {
+        [b] => *b,
+        _ => 0,
     }
-    0
 }
 
 // The field after the comma at place `at`; at the line's end, none.
@@ -69,7 +73,7 @@ fn field_after(s: &[u8], at: usize) -> Field
     let cut = text::cut_field(rest);
     Field {
         there: 1,
-        value: cut.value,
+        value: cut.value.unwrap_or(NOT_NUMBER),
         end: at + 1 + cut.end,
     }
 }

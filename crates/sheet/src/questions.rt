@@ -1,54 +1,48 @@
 // Questions 3 to 9, one function each (7 in ranges.rt), in the paper's order; `question_of` asks them all.
-ghost use Rattle.std.specs.Prelude.{◌≡◌, true, false, not, ◌≤◌, get_or};
+ghost use Rattle.std.specs.Prelude.{◌≡◌, true, false, not, cond, ◌≤◌, get_or};
 ghost use Rattle.aldlf.specs.Constants.{automaton_limit};
 ghost use Rattle.aldlf.specs.Sheet.{bit};
 ghost use Rattle.sheet.specs.Questions.{arity, known_line, all_numbers, room_left, belongs, last, newly_accepting, plain_node, plains, plain_step, question};
+ghost use Rattle.sheet.specs.Ranges.{going_on, stop_at};
+ghost use Rattle.sheet.specs.Outcomes.{question_number, stop_of};
 
+use super::SheetQuestion;
 use super::build::Reading;
-use super::line::Line;
-use super::ranges::{Stop, out_of_range, stop_at};
+use super::line::{Line, NOT_NUMBER};
+use super::ranges::{Stop, out_of_range};
 use aldlf::{Automaton, NodeLine, Table, Used};
 
 // The first of questions 3 to 9 that gets a no, if one does.
-pub(crate) fn question_of(r: Reading, l: Line) -> Stop
-    requires { r.table.used.automata ≤ automaton_limit }
-    ensures { result ≡ question r l }
+pub(crate) fn question_of(r: &Reading, l: Line) -> Result<(), Stop>
+    requires { r.now.table.used.automata ≤ automaton_limit }
+    ensures { stop_of result ≡ question r.now l }
 {
-    let t = r.table;
-    let used = t.used;
-    let nodes = t.nodes;
-    let x = last_of(t);
-    if !known_line(l) {
-        return stop_at(3, 0);
+    let used = r.table.used;
+    let x = last_of(&r.table);
+    ask(known_line(l), SheetQuestion::Known)?;
+    ask(all_numbers(l), SheetQuestion::Numbers)?;
+    ask(room_left(used, l), SheetQuestion::Room)?;
+    ask(belongs_here(r.inside, l), SheetQuestion::Inside)?;
+    out_of_range(used, x, l)?;
+    ask(newly_accepting(x, l), SheetQuestion::Accepting)?;
+    ask(plain_step(&r.table.nodes, l), SheetQuestion::Plain)
+}
+
+// A question about the line as a whole: a no stops the reading.
+fn ask(yes: bool, question: SheetQuestion) -> Result<(), Stop>
+    ensures { stop_of result ≡ cond yes going_on (stop_at (question_number question) 0) }
+{
+    if yes {
+        return Ok(());
     }
-    if !all_numbers(l) {
-        return stop_at(4, 0);
-    }
-    if !room_left(used, l) {
-        return stop_at(5, 0);
-    }
-    if !belongs_here(r.inside, l) {
-        return stop_at(6, 0);
-    }
-    let wrong = out_of_range(used, x, l);
-    if wrong.number != 0 {
-        return wrong;
-    }
-    if !newly_accepting(x, l) {
-        return stop_at(8, 0);
-    }
-    if !plain_step(nodes, l) {
-        return stop_at(9, 0);
-    }
-    stop_at(0, 0)
+    Err(Stop { question, field: 0 })
 }
 
 // Question 3.
 fn known_line(l: Line) -> bool
     ensures { result ≡ known_line l }
 {
-    let n = arity_of(l.letter);
-    l.count == n
+    l.count == arity_of(l.letter)
 }
 
 // How many fields follow a letter; 9 for what is none.
@@ -69,10 +63,7 @@ fn arity_of(l: u8) -> u8
 fn all_numbers(l: Line) -> bool
     ensures { result ≡ all_numbers l }
 {
-    (l.a < text::NOT_NUMBER)
-        & (l.b < text::NOT_NUMBER)
-        & (l.c < text::NOT_NUMBER)
-        & (l.d < text::NOT_NUMBER)
+    (l.a < NOT_NUMBER) & (l.b < NOT_NUMBER) & (l.c < NOT_NUMBER) & (l.d < NOT_NUMBER)
 }
 
 // Question 5.
@@ -100,16 +91,11 @@ fn belongs_here(inside: bool, l: Line) -> bool
 }
 
 // The automaton of the last M line.
-pub(crate) fn last_of(t: Table) -> Automaton
-    requires { t.used.automata ≤ automaton_limit }
-    ensures { result ≡ last t }
+pub(crate) fn last_of(t: &Table) -> Automaton
+    requires { t.now.used.automata ≤ automaton_limit }
+    ensures { result ≡ last t.now }
 {
-    let n = t.used.automata;
-    if n == 0 {
-        return t.automata[0];
-    }
-    let i = (n - 1) as usize;
-    t.automata[i]
+    t.automata[t.used.automata.saturating_sub(1) as usize]
 }
 
 // Question 8.
@@ -134,31 +120,22 @@ fn is_clear(w: u16, a: u16) -> bool
 }
 
 // Question 9.
-fn plain_step(nodes: [NodeLine; aldlf::NODES], l: Line) -> bool
-    ensures { result ≡ plain_step nodes l }
+fn plain_step(nodes: &[NodeLine; aldlf::NODES], l: Line) -> bool
+    ensures { result ≡ plain_step nodes.now l }
 {
-    let c = l.letter;
-    if c != b'E' {
+    if l.letter != b'E' || l.b == 0 {
         return true;
     }
-    if l.b == 0 {
-        return true;
-    }
-    let p = plains_of(nodes);
-    flag_at(&p, l.c)
+    flag_at(&plains_of(nodes), l.c)
 }
 
 // Of each node, whether it is neither D nor B and built on none.
-fn plains_of(nodes: [NodeLine; aldlf::NODES]) -> [bool; aldlf::NODES]
-    ensures { result ≡ plains nodes }
+fn plains_of(nodes: &[NodeLine; aldlf::NODES]) -> [bool; aldlf::NODES]
+    ensures { result ≡ plains nodes.now }
 {
     let mut p = [false; aldlf::NODES];
-    let mut i: usize = 0;
-    while i < aldlf::NODES {
-        let x = nodes[i];
-        let f = plain_node(&p, x);
-        p[i] = f;
-        i += 1;
+    for (i, x) in nodes.iter().enumerate() {
+        p[i] = plain_node(&p, *x);
     }
     p
 }
@@ -179,9 +156,5 @@ pub(crate) fn plain_node(p: &[bool], x: NodeLine) -> bool
 pub(crate) fn flag_at(p: &[bool], k: u16) -> bool
     ensures { result ≡ get_or p.now k false }
 {
-    let i = k as usize;
-    if p.len() <= i {
-        return false;
-    }
-    p[i]
+    p.get(k as usize).copied().unwrap_or(false)
 }

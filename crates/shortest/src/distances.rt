@@ -9,10 +9,10 @@ ghost use Rattle.shortest.specs.Goals.{GoalAt, Asked};
 ghost use Rattle.shortest.specs.Descent.{Distances};
 
 use super::seeds::seed;
-use super::{Query, start_of};
+use super::{FAR, Query, start_of};
 use aldlf::Automaton;
 use graph::edges::{first_into, into, unpacked};
-use graph::moves::{FAR, numbered, prior, reciprocal};
+use graph::moves::{numbered, prior, reciprocal};
 
 // A turn of the search: the queue's place to take, its first free place, and what stands for the count of states in `numbered`.
 #[derive(Clone, Copy)]
@@ -29,15 +29,12 @@ pub(crate) struct Begun {
     pub(crate) tail: u16,
 }
 
-// Mark p at distance d where it is a configuration not reached yet; the queue's new tail.
+// Mark the configuration p at distance d where it is not reached yet; the queue's new tail.
 fn relax(p: u16, d: u16, tail: u16, dist: &mut [u16], queue: &mut [u16]) -> u16
-    requires { p < length dist.old → at dist.old p ≡ far → (tail < length queue.old) × (tail < 8192) }
+    requires { (p < length dist.old) × (at dist.old p ≡ far → (tail < length queue.old) × (tail < 8192)) }
     ensures { Relaxed dist.old queue.old p d tail dist.new queue.new result }
 {
     let at = p as usize;
-    if dist.len() <= at {
-        return tail;
-    }
     if dist[at] != FAR {
         return tail;
     }
@@ -71,10 +68,12 @@ fn relax_edges(
     let last = q.first + q.count;
     let mut tail = turn.tail;
     let mut k = first_into(arcs, here.state);
+    // A `while`: each edge names the next of its chain.
     while k < last {
         let x = arcs[k as usize];
-        let p = prior(words, unpacked(x), q.states, here.entry);
-        tail = relax(p, d, tail, dist, queue);
+        if let Some(p) = prior(words, unpacked(x), q.states, here.entry) {
+            tail = relax(p, d, tail, dist, queue);
+        }
         k = into(x);
     }
     tail
@@ -98,6 +97,7 @@ fn spread(
     let by = reciprocal(q.states as u16);
     let mut head: u16 = 0;
     let mut tail = begun.tail;
+    // A `while`: the queue grows while it is read.
     while head < tail {
         if dist[start] != FAR {
             return;

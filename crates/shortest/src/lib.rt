@@ -12,6 +12,9 @@ ghost use Rattle.graph.specs.Configurations.{start_of};
 
 use aldlf::{Automaton, Entry, Node};
 
+// As a distance, not reached. The search's memory is fixed: distances as options would take twice as much.
+pub const FAR: u16 = 65535;
+
 // Where a walk is to end: in an accepting state at an entry where the node's verdict is `want`.
 #[derive(Clone, Copy)]
 pub struct Goal {

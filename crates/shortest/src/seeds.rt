@@ -5,7 +5,7 @@ ghost use Rattle.aldlf.specs.Sheet.{bit};
 ghost use Rattle.reach.specs.Marks.{paired};
 ghost use Rattle.graph.specs.Graph.{at, far};
 ghost use Rattle.shortest.specs.Goals.{goal_at, goals_in};
-ghost use Rattle.shortest.specs.Progress.{Put, Seeded};
+ghost use Rattle.shortest.specs.Progress.{Seeded};
 
 use super::Goal;
 use aldlf::Automaton;
@@ -15,25 +15,8 @@ fn goals_in(words: &[u64], entry: usize, accepting: u16, goal: Goal) -> u16
     requires { (goal.node.0 < node_limit) × (entry < length (paired words.now)) }
     ensures { result ≡ goals_in (at (paired words.now) entry) accepting goal }
 {
-    let node = goal.node;
-    let found = reach::verdict(words, entry, node);
-    if reach::facing(goal.want, found) {
-        return accepting;
-    }
-    0
-}
-
-// Mark c where it is a goal; the queue's new tail.
-fn seed_one(goal: bool, c: u16, tail: u16, dist: &mut [u16], queue: &mut [u16]) -> u16
-    requires { (c < length dist.old) × (tail < length queue.old) × (tail < 8192) }
-    ensures { Put dist.old queue.old goal c tail dist.new queue.new result }
-{
-    if !goal {
-        return tail;
-    }
-    dist[c as usize] = 0;
-    queue[tail as usize] = c;
-    tail + 1
+    let found = reach::verdict(words, entry, goal.node);
+    if found == goal.want { accepting } else { 0 }
 }
 
 // Mark the goals of an entry whose configurations start at `base`; the queue's new tail.
@@ -53,10 +36,12 @@ fn seed_entry(
         return tail;
     }
     let mut end = tail;
-    let mut s: u16 = 0;
-    while s < states {
-        end = seed_one((goals >> s) % 2 == 1, base + s, end, dist, queue);
-        s += 1;
+    for s in 0..states {
+        if (goals >> s) % 2 == 1 {
+            dist[(base + s) as usize] = 0;
+            queue[end as usize] = base + s;
+            end += 1;
+        }
     }
     end
 }
@@ -77,13 +62,10 @@ pub(crate) fn seed(
     let states = q.states as u16;
     let mut tail: u16 = 0;
     let mut base: u16 = 0;
-    let n = words.len() / 2;
-    let mut j: usize = 0;
-    while j < n {
+    for j in 0..words.len() / 2 {
         let goals = goals_in(words, j, q.accepting, goal);
         tail = seed_entry(goals, states, base, tail, dist, queue);
         base += states;
-        j += 1;
     }
     tail
 }

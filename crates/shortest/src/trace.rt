@@ -1,14 +1,14 @@
 // The walk along falling distances: at each step the lowest edge whose target is one nearer, of the edges that leave the state.
-ghost use Rattle.std.specs.Prelude.{◌≡◌, ℕ, ◌+◌, ◌*◌, ◌≤◌, ◌<◌, length};
+ghost use Rattle.std.specs.Prelude.{◌≡◌, ℕ, ◌+◌, ◌*◌, ◌≤◌, ◌<◌, length, IfSome};
 ghost use Rattle.aldlf.specs.Constants.{state_limit, entry_limit};
 ghost use Rattle.reach.specs.Marks.{paired};
 ghost use Rattle.graph.specs.Graph.{at, far, Step};
-ghost use Rattle.graph.specs.Configurations.{graph_of, EdgeFits, Ready};
+ghost use Rattle.graph.specs.Configurations.{entry_or_far, graph_of, EdgeFits, Ready};
 ghost use Rattle.shortest.specs.Descent.{Nearer, Lowest, Descends, Written, Inside, number_of};
 
 use aldlf::{Automaton, Edge, Entry};
 use graph::edges::{first_out, out, unpacked};
-use graph::moves::{Configuration, FAR, arrival};
+use graph::moves::{Configuration, arrival};
 
 // An edge and the configuration that it leads to.
 #[derive(Clone, Copy)]
@@ -24,23 +24,21 @@ pub struct Wanted {
     pub distance: u16,
 }
 
-// The entry at which e arrives in a configuration at the wanted distance, or FAR.
-fn nearer(words: &[u64], dist: &[u16], e: Edge, states: u8, wanted: Wanted) -> u16
+// The entry at which e arrives in a configuration at the wanted distance.
+fn nearer(words: &[u64], dist: &[u16], e: Edge, states: u8, wanted: Wanted) -> Option<Entry>
     requires edge_fits { EdgeFits states e }
     requires states_le_state_limit { (states ≤ state_limit) × (length (paired words.now) ≤ entry_limit) × (length dist.now ≡ length (paired words.now) * states) }
     requires inside { Inside states (length (paired words.now)) wanted.from × (e.from.0 ≡ wanted.from.state.0) }
-    ensures { Nearer (paired words.now) dist.now e states (number_of states wanted.from) wanted.distance result }
+    ensures { Nearer (paired words.now) dist.now e states (number_of states wanted.from) wanted.distance (entry_or_far result)
+        × IfSome result (λ j. j.0 < length (paired words.now)) }
 {
-    let from = wanted.from;
-    let j = arrival(words, e, from.entry);
-    if j == FAR {
-        return FAR;
+    let j = arrival(words, e, wanted.from.entry)?;
+    let c = j.0 * (states as u16) + (e.to.0 as u16);
+    if dist[c as usize] == wanted.distance {
+        Some(j)
+    } else {
+        None
     }
-    let c = j * (states as u16) + (e.to.0 as u16);
-    if dist[c as usize] != wanted.distance {
-        return FAR;
-    }
-    j
 }
 
 // The lowest edge from a configuration to one at the wanted distance.
@@ -52,28 +50,18 @@ fn lowest_edge(arcs: &[u64], words: &[u64], q: Automaton, dist: &[u16], wanted: 
         result.edge (number_of q.states result.to) }
     ensures inside { Inside q.states (length (paired words.now)) result.to }
 {
-    let last = q.first + q.count;
-    let from = wanted.from;
-    let mut k = first_out(arcs, from.state);
-    while k < last {
+    let mut k = first_out(arcs, wanted.from.state);
+    // No test for a chain's end: what is required says that one of its edges is found.
+    loop {
         let x = arcs[k as usize];
         let e = unpacked(x);
-        let j = nearer(words, dist, e, q.states, wanted);
-        if j != FAR {
-            let to = e.to;
+        if let Some(entry) = nearer(words, dist, e, q.states, wanted) {
             return Move {
                 edge: k,
-                to: Configuration {
-                    state: to,
-                    entry: Entry(j),
-                },
+                to: Configuration { state: e.to, entry },
             };
         }
         k = out(x);
-    }
-    Move {
-        edge: FAR,
-        to: from,
     }
 }
 
@@ -93,17 +81,14 @@ pub fn trace(
     ensures { Written (graph_of arcs.now q (paired words.now)) dist.now (number_of q.states start.from) out.old out.new
         start.distance }
 {
-    let total = start.distance;
     let mut here = start.from;
-    let mut k: u16 = 0;
-    while k < total {
+    for k in 0..start.distance {
         let wanted = Wanted {
             from: here,
-            distance: total - k - 1,
+            distance: start.distance - k - 1,
         };
         let m = lowest_edge(arcs, words, q, dist, wanted);
         out[k as usize] = m.edge;
         here = m.to;
-        k += 1;
     }
 }

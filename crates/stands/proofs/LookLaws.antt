@@ -21,7 +21,7 @@ use Rattle.aldlf.proofs.Stands.{no_flag}
 use Rattle.sheet.specs.Facts.{automaton_at}
 use Rattle.stands.specs.Looking.{found, Ways, SheetLooks, RuleWays, WithLine, WithEdges, Asked}
 use Rattle.stands.specs.Trimmed.{rule_table}
-use Rattle.stands.specs.declared.lent.Looks.{Looks}
+use Rattle.stands.specs.declared.Looks.{Looks}
 use Rattle.stands.proofs.TrimLaws.{rule_table_sheet}
 
 -- One edge ------------------------------------------------------------------------------------------------------------------------

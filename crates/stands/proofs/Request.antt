@@ -16,8 +16,8 @@ use Rattle.sheet.proofs.Sound.{sound}
 use Rattle.stands.specs.Answers.{rule_looks_of}
 use Rattle.stands.specs.Looking.{RuleWays}
 use Rattle.stands.specs.Right.{LooksRight}
-use Rattle.stands.specs.declared.RuleLooks.{RuleLooks}
-use Rattle.stands.specs.declared.lent.Looks.{Looks}
+use Rattle.stands.specs.Answers.{RuleLooks}
+use Rattle.stands.specs.declared.Looks.{Looks}
 
 -- THE FLAGS ARE WHAT THE RULE STANDS ON
 pub given_stands_iff : (t : Table) → well_formed t ≡ true → (k : ℕ) → (stands (sheet_of t) k ≡ true) ↔ StandsOn (sheet_of t) k

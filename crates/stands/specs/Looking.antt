@@ -3,7 +3,7 @@ use Rattle.std.specs.Prelude.{ℕ, ◌+◌, ◌≡◌, Bool, true, false, ◌||�
 use Rattle.aldlf.specs.Sheet.{Sheet, Line, Dir, ahead, back, stay, sheet_of}
 use Rattle.aldlf.specs.Stands.{any_below, same_dir, has_dir, line_has, stands_on_dir}
 use Rattle.aldlf.specs.declared.Table.{Table}
-use Rattle.stands.specs.declared.lent.Looks.{Looks}
+use Rattle.stands.specs.declared.Looks.{Looks}
 
 -- What was found of a direction.
 abbrev pub found : Looks → Dir → Bool

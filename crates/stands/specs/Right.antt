@@ -5,7 +5,7 @@ use Rattle.aldlf.specs.Stands.{StandsOnEdge}
 use Rattle.aldlf.specs.Parts.{looks_only}
 use Rattle.aldlf.specs.declared.Table.{Table}
 use Rattle.aldlf.specs.declared.Way.TheVariants.{Ahead, Back}
-use Rattle.stands.specs.declared.RuleLooks.{RuleLooks}
+use Rattle.stands.specs.Answers.{RuleLooks}
 
 -- The answer r of `rule_looks` is right for the table t.
 pub record LooksRight (t : Table) (r : RuleLooks) : Type 0 where

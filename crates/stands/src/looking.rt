@@ -8,7 +8,8 @@ ghost use Rattle.packing.specs.Packed.{Packed};
 ghost use Rattle.sheet.specs.Facts.{Lent};
 ghost use Rattle.stands.specs.Looking.{SheetLooks, WithLine, WithEdges, Asked};
 
-use super::lent::Looks;
+use super::Looks;
+use super::lent::is_modal;
 use aldlf::{Automaton, Node};
 use packing::places::{automaton_at, edge_at, line_at, used_in};
 
@@ -19,14 +20,9 @@ pub(crate) fn looks_in(numbers: &[u32]) -> Looks
 {
     let mut asked = [false; aldlf::AUTOMATA];
     let count = used_in(numbers).nodes;
-    let mut looks = Looks {
-        ahead: false,
-        back: false,
-    };
-    let mut k: u8 = 0;
-    while k < count {
+    let mut looks = Looks::default();
+    for k in 0..count {
         looks = with_line(numbers, Node(k), looks, &mut asked);
-        k += 1;
     }
     looks
 }
@@ -39,16 +35,15 @@ fn with_line(numbers: &[u32], node: Node, looks: Looks, asked: &mut [bool]) -> L
     ensures { (t : Table) → Lent t numbers.now → WithLine (sheet_of t) ((sheet_of t).line node.0) looks result × Asked (sheet_of t) result asked.new }
 {
     let line = line_at(numbers, node);
-    let kind = line.kind;
     let m = line.a;
-    if (kind == b'D') | (kind == b'B') {
-        if asked[m as usize] {
-            return looks;
-        }
-        asked[m as usize] = true;
-        return with_edges(numbers, automaton_at(numbers, m), looks);
+    if !is_modal(line.kind) {
+        return looks;
     }
-    looks
+    if asked[m as usize] {
+        return looks;
+    }
+    asked[m as usize] = true;
+    with_edges(numbers, automaton_at(numbers, m), looks)
 }
 
 // These ways, and those of an automaton's edges.
@@ -56,16 +51,12 @@ fn with_edges(numbers: &[u32], x: Automaton, looks: Looks) -> Looks
     requires { (length numbers.now ≡ places) × (x.first + x.count ≤ edge_limit) }
     ensures { (t : Table) → Packed t numbers.now → WithEdges (sheet_of t) x.first x.count looks result }
 {
-    let first = x.first;
-    let count = x.count;
     let mut ahead = looks.ahead;
     let mut back = looks.back;
-    let mut c: u16 = 0;
-    while c < count {
-        let e = edge_at(numbers, first + c);
-        ahead = ahead | (e.dir == 1);
-        back = back | (1 < e.dir);
-        c += 1;
+    for c in 0..x.count {
+        let e = edge_at(numbers, x.first + c);
+        ahead |= e.dir == 1;
+        back |= 1 < e.dir;
     }
     Looks { ahead, back }
 }

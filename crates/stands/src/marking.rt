@@ -1,5 +1,5 @@
 // The nodes that the rule stands on: marked by one pass from the last node down, for a line names only earlier nodes.
-ghost use Rattle.std.specs.Prelude.{◌≡◌, true, ◌<◌, length, set};
+ghost use Rattle.std.specs.Prelude.{◌≡◌, ◌<◌, length};
 ghost use Rattle.aldlf.specs.Constants.{node_limit, automaton_limit};
 ghost use Rattle.aldlf.specs.Sheet.{sheet_of};
 ghost use Rattle.aldlf.specs.Stands.{mark_tests, mark_line, stands_from, stands_of};
@@ -32,9 +32,7 @@ fn mark_all(numbers: &[u32], flags: &mut [bool], taken: &mut [bool])
     requires taken { (t : Table) → Lent t numbers.now → Taken (sheet_of t) flags.old taken.old }
     ensures { (t : Table) → Lent t numbers.now → flags.new ≡ stands_from (sheet_of t) t.used.nodes flags.old }
 {
-    let mut k: u8 = used_in(numbers).nodes;
-    while 0 < k {
-        k -= 1;
+    for k in (0..used_in(numbers).nodes).rev() {
         mark_turn(numbers, Node(k), flags, taken);
     }
 }
@@ -46,10 +44,9 @@ fn mark_turn(numbers: &[u32], node: Node, flags: &mut [bool], taken: &mut [bool]
     requires taken { (t : Table) → Lent t numbers.now → Taken (sheet_of t) flags.old taken.old }
     ensures { (t : Table) → Lent t numbers.now → Marked (sheet_of t) (turned (sheet_of t) node.0 flags.old) flags.new taken.new }
 {
-    if !flags[node.0 as usize] {
-        return;
+    if flags[node.0 as usize] {
+        mark_line(numbers, node, flags, taken);
     }
-    mark_line(numbers, node, flags, taken);
 }
 
 // The nodes that a node's line names are marked.
@@ -60,29 +57,18 @@ fn mark_line(numbers: &[u32], node: Node, flags: &mut [bool], taken: &mut [bool]
     ensures { (t : Table) → Lent t numbers.now → Marked (sheet_of t) (mark_line (sheet_of t) ((sheet_of t).line node.0) flags.old) flags.new taken.new }
 {
     let line = line_at(numbers, node);
-    let kind = line.kind;
-    if kind == b'N' {
-        mark(flags, Node(line.a));
-        return;
+    match line.kind {
+        b'N' => flags[line.a as usize] = true,
+        b'A' | b'O' => {
+            flags[line.a as usize] = true;
+            flags[line.b as usize] = true;
+        }
+        b'D' | b'B' => {
+            flags[line.b as usize] = true;
+            mark_automaton(numbers, line.a, flags, taken);
+        }
+        _ => {}
     }
-    if (kind == b'A') | (kind == b'O') {
-        mark(flags, Node(line.a));
-        mark(flags, Node(line.b));
-        return;
-    }
-    if (kind == b'D') | (kind == b'B') {
-        mark(flags, Node(line.b));
-        mark_automaton(numbers, line.a, flags, taken);
-        return;
-    }
-}
-
-// A node is marked.
-fn mark(flags: &mut [bool], node: Node)
-    requires { node.0 < length flags.old }
-    ensures { flags.new ≡ set flags.old node.0 true }
-{
-    flags[node.0 as usize] = true;
 }
 
 // The nodes that the edges of automaton m test are marked: once, however many lines name the automaton.
@@ -105,13 +91,8 @@ fn mark_tests(numbers: &[u32], x: Automaton, flags: &mut [bool])
     requires { TestsIn numbers.now x × (length flags.old ≡ node_limit) }
     ensures { (t : Table) → Packed t numbers.now → flags.new ≡ mark_tests (sheet_of t) x.first x.count flags.old }
 {
-    let first = x.first;
-    let count = x.count;
-    let mut c: u16 = 0;
-    while c < count {
-        let e = edge_at(numbers, first + c);
-        let test = e.test;
-        flags[test.0 as usize] = true;
-        c += 1;
+    for c in 0..x.count {
+        let e = edge_at(numbers, x.first + c);
+        flags[e.test.0 as usize] = true;
     }
 }

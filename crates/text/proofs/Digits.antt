@@ -49,7 +49,7 @@ all_digits_lem [] d = refl
 all_digits_lem (b ∷ bs) d = rw (d 0 (omega arith)) (all_digits_lem bs (λ i q. d (suc i) (omega arith)))
 
 -- no digit is above `9`
-digit_le : (b : ℕ) → is_digit b ≡ true → b ≤ 57
+pub digit_le : (b : ℕ) → is_digit b ≡ true → b ≤ 57
 digit_le b h = leb-true b 57 (both_go (leb 48 b) (leb b 57) h).1
 
 -- digits after those of a value below 10 ^ k make less than so many digits more do

@@ -8,6 +8,7 @@ use native.Mathlib.Omega.{arith}
 use lib.ListN.{length, get_or, drop, drop_of_length-le}
 use lib.Seq.{drop-cons}
 use borrow.Author.Tests.{le-leb, lt-leb}
+use Rattle.std.specs.Char.{is_ascii_digit}
 use Rattle.text.specs.Text.{all_digits, value_of, number_in}
 
 module _ (s : List ℕ) (most : ℕ) where
@@ -30,17 +31,13 @@ module _ (s : List ℕ) (most : ℕ) where
 
 -- a byte more
 module _ (s : List ℕ) (i : ℕ) (h : i < length s) where
-  pub digits_low : get_or s i 0 < 48 → all_digits (drop i s) ≡ false
+  pub digits_bad : is_ascii_digit (get_or s i 0) ≡ false → all_digits (drop i s) ≡ false
   unfolding all_digits
-  digits_low l = rw (drop-cons s i 0 h, lt-leb 48 (get_or s i 0) l)
+  digits_bad e = rw (drop-cons s i 0 h, e)
 
-  pub digits_high : 48 ≤ get_or s i 0 → 57 < get_or s i 0 → all_digits (drop i s) ≡ false
+  pub digits_on : is_ascii_digit (get_or s i 0) ≡ true → all_digits (drop i s) ≡ all_digits (drop (i + 1) s)
   unfolding all_digits
-  digits_high k l = rw (drop-cons s i 0 h, le-leb 48 (get_or s i 0) k, lt-leb (get_or s i 0) 57 l)
-
-  pub digits_on : 48 ≤ get_or s i 0 → get_or s i 0 ≤ 57 → all_digits (drop i s) ≡ all_digits (drop (i + 1) s)
-  unfolding all_digits
-  digits_on k l = rw (add-one i, drop-cons s i 0 h, le-leb 48 (get_or s i 0) k, le-leb (get_or s i 0) 57 l)
+  digits_on e = rw (add-one i, drop-cons s i 0 h, e)
 
   pub value_on : (v : ℕ) → value_of v (drop i s) ≡ value_of (v * 10 + (get_or s i 0 - 48)) (drop (i + 1) s)
   unfolding value_of

@@ -1,27 +1,17 @@
--- How far a separator stands, in the terms of a loop's index, and a text's first piece with the pieces after it.
+-- How far a separator stands, by the place where it is first, and a text's first piece with the pieces after it.
 use Prim.Native.Nat.{ℕ, zero, suc, ◌+◌, ◌≤◌, ◌<◌}
 use mathlib.Core.Path.{◌≡◌, refl}
 use mathlib.Core.List.{List, [], ◌∷◌}
 use mathlib.Core.Bool.{Bool, true, false, cond}
 use native.Mathlib.Numerals.{add-one}
 use native.Mathlib.Omega.{arith}
-use lib.ListN.{length, get_or, take, drop, drop_of_length-le}
-use lib.Seq.{drop-cons}
+use lib.ListN.{length, get_or, take, drop}
 use lib.Dec.{eqb}
-use borrow.Author.Tests.{eq-eqb, ne_eqb}
+use borrow.Author.Tests.{eq-eqb, ltb-false}
+use Rattle.std.proofs.Common.{◌==◌, ltb, unwrap_or, position, Some, None}
+use Rattle.std.specs.List.{position_or_len}
+use Rattle.std.proofs.lemmas.List.Recursion.{is_position_or_len}
 use Rattle.text.specs.Text.{pieces, glue, up_to}
-
-pub up_to_here : (sep : ℕ) (l : List ℕ) (i : ℕ) → i < length l → get_or l i 0 ≡ sep → up_to sep (drop i l) ≡ 0
-unfolding up_to
-up_to_here sep l i h e = rw (drop-cons l i 0 h, eq-eqb (get_or l i 0) sep e)
-
-pub up_to_on : (sep : ℕ) (l : List ℕ) (i : ℕ) → i < length l → (get_or l i 0 ≡ sep → ⊥) → up_to sep (drop i l) ≡ suc (up_to sep (drop (i + 1) l))
-unfolding up_to
-up_to_on sep l i h e = rw (add-one, drop-cons l i 0 h, ne_eqb (get_or l i 0) sep e)
-
-pub up_to_end : (sep : ℕ) (l : List ℕ) (i : ℕ) → length l ≤ i → up_to sep (drop i l) ≡ 0
-unfolding up_to
-up_to_end sep l i h = rw (drop_of_length-le l h)
 
 le_go : (n m : ℕ) → n ≤ m → (t : Bool) → cond t 0 (suc n) ≤ suc m
 le_go n m h true = omega arith
@@ -31,6 +21,17 @@ pub up_to-le : (sep : ℕ) (l : List ℕ) → up_to sep l ≤ length l
 unfolding up_to
 up_to-le sep [] = omega arith
 up_to-le sep (b ∷ bs) = le_go (up_to sep bs) (length bs) (up_to-le sep bs) (eqb b sep)
+
+position_go : (n m : ℕ) → n ≤ m → (t : Bool) → ltb n m ≡ t → unwrap_or (cond t (Some n) None) m ≡ n
+position_go n m h true e = refl
+position_go n m h false e = omega (arith, ltb-false n m e)
+
+-- it is the place of the first separator, or the text's length where there is none
+pub up_to_position : (sep : ℕ) (l : List ℕ) → unwrap_or (position (λ b. b == sep) l) (length l) ≡ up_to sep l
+unfolding up_to
+up_to_position sep l =
+    let e : up_to sep l ≡ position_or_len (λ b. b == sep) l = is_position_or_len (up_to sep) (λ b. b == sep) refl (λ b bs. let h : 1 + up_to sep bs ≡ suc (up_to sep bs) = omega arith in rw h) l in
+    rw (← e) (position_go (up_to sep l) (length l) (up_to-le sep l) (ltb (up_to sep l) (length l)) refl)
 
 at_go : (b sep n i : ℕ) → ((j : ℕ) → i ≡ suc j → n ≤ j) → (i ≡ 0 → b ≡ sep) → (t : Bool) → eqb b sep ≡ t → cond t 0 (suc n) ≤ i
 at_go b sep n i f g true e = omega arith

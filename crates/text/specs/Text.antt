@@ -1,5 +1,5 @@
 -- Text to lines, fields and numbers: what sheets and logs share. A text is its list of bytes.
-use Rattle.std.specs.Prelude.{ℕ, suc, ◌+◌, ◌*◌, ◌-◌, ◌^◌, ◌≤◌, ◌≡◌, List, [], ◌∷◌, Bool, true, cond, ◌&&◌, length, get_or, take, drop, leb, eqb}
+use Rattle.std.specs.Prelude.{ℕ, suc, ◌+◌, ◌*◌, ◌-◌, ◌^◌, ◌≤◌, ◌<◌, ◌≡◌, List, [], ◌∷◌, Bool, true, cond, ◌&&◌, length, get_or, take, drop, leb, eqb, unwrap_or, IfSome}
 use Rattle.text.specs.declared.Cut.{Cut}
 
 -- at most so many bytes in a text
@@ -76,5 +76,5 @@ number l = number_in 3 l
 pub record CutOf (l : List ℕ) (r : Cut) : Type 0 where
   pub at : r.end ≡ up_to comma l
   pub within : r.end ≤ length l
-  pub reads : r.value ≡ number (take r.end l)
-  pub small : r.value ≤ not_number
+  pub reads : unwrap_or r.value not_number ≡ number (take r.end l)
+  pub small : IfSome r.value (λ n. n < not_number)

@@ -32,9 +32,11 @@ use Rattle.graph.specs.Configurations.{graph_of, start_of, Ready}
 use Rattle.shortest.specs.Goals.{goal_at, GoalAt}
 use Rattle.shortest.specs.declared.Goal.{Goal}
 use Rattle.walk.specs.Search.{goal_of, Found, LineReady, LineFound, JudgedLog, modal_of}
-use Rattle.walk.specs.Answer.{refused_by, answer_of}
-use Rattle.walk.specs.declared.WalkAnswer.{WalkAnswer}
-use Rattle.walk.specs.declared.WalkAnswer.TheVariants.{Shown, Refused}
+use Rattle.walk.specs.Answer.{answer_of}
+use Rattle.aldlf.specs.Refusals.{refusal_number}
+use Rattle.aldlf.specs.declared.Refusal.{Refusal}
+use Rattle.aldlf.specs.declared.Refusal.TheVariants.{NoNode, NoEntry, NotModal}
+use Rattle.std.specs.Prelude.{Result, Ok, Err}
 use Rattle.walk.proofs.Agreement.{Agrees, edge_of, found-far, found_near, found_descent}
 use Rattle.walk.proofs.Questions.{refusal, by_room, shown_by, outcome_36, outcome_37, outcome_38, outcome_walk}
 
@@ -68,16 +70,16 @@ module _
       ap₂ (λ (x : ℕ) (b : List ℕ). record { number = 0; count = x; buffer = b }) (sym e) (w ∙ ap (λ (x : ℕ). es ++ drop x before) (sym e))
 
   -- the search's answer is that of questions 39 and 40 about the walk that is found
-  pub answer_right : (before after : List ℕ) (x : WalkAnswer) → Found (graph_of arcs q words) (GoalAt words q goal) (start_of q i) before after x
+  pub answer_right : (before after : List ℕ) (x : Result ℕ Refusal) → Found (graph_of arcs q words) (GoalAt words q goal) (start_of q i) before after x
       → answer_of x after ≡ shown_by sought before
   unfolding answer_of
-  answer_right before after (Shown c) f =
+  answer_right before after (Ok c) f =
       let (near, count, fits, w) = f.answered in
       let e : sought ≡ some w.walk = found_descent S n m h g arcs q words goal r a f.distances q.start.0 i f.right ls li w.walk w.end near w.leads w.ends in
       let long = w.long in
       shown_count w.walk before after c long w.written
       ∙ (sym (shown_room w.walk before (omega arith)) ∙ ap (λ (o : Option (List ℕ)). shown_by o before) (sym e))
-  answer_right before after (Refused c) f = go f.answered.1
+  answer_right before after (Err c) f = go f.answered.1
     where
       kept : after ≡ before
       kept = f.answered.0
@@ -85,13 +87,13 @@ module _
       D : List ℕ
       D = f.distances
 
-      go : ((c ≡ 39) × (at D (start_of q i) ≡ far)) ⊎ ((c ≡ 40) × (at D (start_of q i) < far) × (length before < at D (start_of q i))) → refusal (refused_by c) after ≡ shown_by sought before
+      go : ((refusal_number c ≡ 39) × (at D (start_of q i) ≡ far)) ⊎ ((refusal_number c ≡ 40) × (at D (start_of q i) < far) × (length before < at D (start_of q i))) → refusal (refusal_number c) after ≡ shown_by sought before
       go (inl (e, z)) =
-          ap₂ (λ (y : ℕ) (b : List ℕ). refusal (refused_by y) b) e kept
+          ap₂ (λ (y : ℕ) (b : List ℕ). refusal y b) e kept
           ∙ ap (λ (o : Option (List ℕ)). shown_by o before) (sym (found-far S n m h g arcs q words goal r a D q.start.0 i f.right ls li z))
       go (inr (e, near, room)) =
           let (es, p, long) = found_near S n m h g arcs q words goal r a D q.start.0 i f.right ls li near in
-          ap₂ (λ (y : ℕ) (b : List ℕ). refusal (refused_by y) b) e kept
+          ap₂ (λ (y : ℕ) (b : List ℕ). refusal y b) e kept
           ∙ (sym (shown_short es before (omega arith)) ∙ ap (λ (o : Option (List ℕ)). shown_by o before) (sym p))
 
 -- A given table -----------------------------------------------------------------------------------------------------------------
@@ -123,15 +125,15 @@ module _ (t : Table) (words log : List ℕ) (W : JudgedLog t words log) where
 
   -- questions 36 to 38
   module _ (k i : ℕ) (buffer : List ℕ) where
-    pub told_36 : t.used.nodes ≤ k → answer_of (Refused 36) buffer ≡ walk_outcome true (sheet_of t) log k i buffer
+    pub told_36 : t.used.nodes ≤ k → answer_of (Err NoNode) buffer ≡ walk_outcome true (sheet_of t) log k i buffer
     unfolding answer_of sheet_of
     told_36 l = sym (outcome_36 (sheet_of t) log k i buffer W.fits (le-ltb k t.used.nodes l))
 
-    pub told_37 : k < t.used.nodes → length words ≤ i → answer_of (Refused 37) buffer ≡ walk_outcome true (sheet_of t) log k i buffer
+    pub told_37 : k < t.used.nodes → length words ≤ i → answer_of (Err NoEntry) buffer ≡ walk_outcome true (sheet_of t) log k i buffer
     unfolding answer_of sheet_of
     told_37 lk l = sym (outcome_37 (sheet_of t) log k i buffer W.fits (lt-ltb k t.used.nodes lk) (le-ltb i (length log) (omega (arith, judged_long))))
 
-    pub told_38 : k < t.used.nodes → i < length words → modal_of (node_at t k) ≡ false → answer_of (Refused 38) buffer ≡ walk_outcome true (sheet_of t) log k i buffer
+    pub told_38 : k < t.used.nodes → i < length words → modal_of (node_at t k) ≡ false → answer_of (Err NotModal) buffer ≡ walk_outcome true (sheet_of t) log k i buffer
     unfolding answer_of sheet_of
     told_38 lk li e =
         sym (outcome_38 (sheet_of t) log k i buffer W.fits (lt-ltb k t.used.nodes lk) (lt-ltb i (length log) (omega (arith, judged_long))) (not_modal t k e))
@@ -182,7 +184,7 @@ module _ (t : Table) (log : List ℕ) (k i : ℕ) (facts : TableFacts t) (lk : k
       (W : JudgedLog t words log)
       (li : i < length log)
       (before after : List ℕ)
-      (x : WalkAnswer)
+      (x : Result ℕ Refusal)
       (f : LineFound t line words i before after x) where
     abbrev h : ℕ → ℕ → Bool
     h = judge S log (plain S) k
@@ -272,7 +274,7 @@ module _ (t : Table) (log : List ℕ) (k i : ℕ) (facts : TableFacts t) (lk : k
         ∙ sym (outcome_walk S log k i before W.fits on_sheet (lt-ltb i (length log) li) is_modal))
 
   -- for either letter
-  pub modal_outcome : modal_of line ≡ true → (words : List ℕ) → JudgedLog t words log → i < length log → (before after : List ℕ) (x : WalkAnswer) → LineFound t line words i before after x
+  pub modal_outcome : modal_of line ≡ true → (words : List ℕ) → JudgedLog t words log → i < length log → (before after : List ℕ) (x : Result ℕ Refusal) → LineFound t line words i before after x
       → answer_of x after ≡ walk_outcome true S log k i before
   modal_outcome e words W li before after x f = go (bool_cases (eqb line.kind letter_d))
     where

@@ -1,5 +1,4 @@
 pub mod LineEdges
-pub mod Room
 pub mod Agreement
 pub mod Questions
 pub mod Answers

@@ -1,11 +1,13 @@
 -- Only for the proofs of the code: what a search needs, and what it answers.
-use Rattle.std.specs.Prelude.{ℕ, ◌+◌, ◌≤◌, ◌<◌, ◌≡◌, ◌⊎◌, Bool, true, ◌||◌, List, eqb, length, get_or}
+use Rattle.std.specs.Prelude.{ℕ, ◌+◌, ◌≤◌, ◌<◌, ◌≡◌, ◌⊎◌, Bool, true, ◌||◌, List, eqb, length, get_or, Result, Ok, Err}
 use Rattle.aldlf.specs.Constants.{node_limit, automaton_limit, state_limit, edge_limit, entry_limit, letter_d, letter_b}
 use Rattle.aldlf.specs.Sheet.{no_edge, no_automaton, sheet_of}
 use Rattle.aldlf.specs.Outcomes.{log_fits, part_verdicts}
 use Rattle.aldlf.specs.Verdict.{plain}
 use Rattle.aldlf.specs.declared.Automaton.{Automaton}
 use Rattle.aldlf.specs.declared.Entry.{Entry}
+use Rattle.aldlf.specs.Refusals.{refusal_number}
+use Rattle.aldlf.specs.declared.Refusal.{Refusal}
 use Rattle.aldlf.specs.declared.NodeLine.{NodeLine}
 use Rattle.aldlf.specs.declared.Table.{Table}
 use Rattle.sheet.specs.Facts.{Lent}
@@ -16,17 +18,15 @@ use Rattle.shortest.specs.Descent.{Distances, Written}
 use Rattle.shortest.specs.Goals.{GoalAt}
 use Rattle.shortest.specs.declared.Goal.{Goal}
 use Rattle.shortest.specs.declared.Query.{Query}
-use Rattle.walk.specs.declared.WalkAnswer.{WalkAnswer}
-use Rattle.walk.specs.declared.WalkAnswer.TheVariants.{Shown, Refused}
 
 -- What the search answers from the distances D, by the answer's case: a walk along D in the first places; no walk; or more edges than places.
-abbrev pub Answered : Graph → List ℕ → ℕ → (before after : List ℕ) → WalkAnswer → Type 0
-Answered G D c before after (Shown n) = (at D c < far) × (at D c ≡ n) × (n ≤ length before) × Written G D c before after n
-Answered G D c before after (Refused q) =
-    (after ≡ before) × (((q ≡ 39) × (at D c ≡ far)) ⊎ ((q ≡ 40) × (at D c < far) × (length before < at D c)))
+abbrev pub Answered : Graph → List ℕ → ℕ → (before after : List ℕ) → Result ℕ Refusal → Type 0
+Answered G D c before after (Ok n) = (at D c < far) × (at D c ≡ n) × (n ≤ length before) × Written G D c before after n
+Answered G D c before after (Err q) =
+    (after ≡ before) × (((refusal_number q ≡ 39) × (at D c ≡ far)) ⊎ ((refusal_number q ≡ 40) × (at D c < far) × (length before < at D c)))
 
 -- The answer for a graph, its goals and a start, whatever list holds the distances.
-pub record Found (G : Graph) (goal : ℕ → Type 0) (c : ℕ) (before after : List ℕ) (r : WalkAnswer) : Type 0 where
+pub record Found (G : Graph) (goal : ℕ → Type 0) (c : ℕ) (before after : List ℕ) (r : Result ℕ Refusal) : Type 0 where
   pub distances : List ℕ
   pub right : Distances G goal distances c
   pub answered : Answered G distances c before after r
@@ -58,7 +58,7 @@ abbrev pub query_of : Automaton → NodeLine → Entry → Query
 query_of q line entry = record { automaton = q; goal = goal_of line; entry = entry }
 
 -- The answer for a line, in the graph of its automaton with chained edges.
-pub record LineFound (table : Table) (line : NodeLine) (words : List ℕ) (i : ℕ) (before after : List ℕ) (r : WalkAnswer) : Type 0 where
+pub record LineFound (table : Table) (line : NodeLine) (words : List ℕ) (i : ℕ) (before after : List ℕ) (r : Result ℕ Refusal) : Type 0 where
   pub arcs : List ℕ
   pub chained : Chained table.edges (get_or table.automata line.a no_automaton).first
       ((get_or table.automata line.a no_automaton).first + (get_or table.automata line.a no_automaton).count) arcs

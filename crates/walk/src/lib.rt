@@ -10,22 +10,22 @@ ghost use Rattle.aldlf.specs.Walks.{walk_outcome};
 ghost use Rattle.sheet.specs.Given.{well_formed};
 ghost use Rattle.walk.specs.Answer.{answer_of, shorter_of};
 
-use aldlf::{Entry, Node, Table};
+use aldlf::{Entry, Node, Refusal, Table};
 use lent::walk_lent;
 use packing::places::PLACES;
 use packing::writing::pack;
 
-// What asking for a walk answers: how many edges it has, or the number of the first question that gets a no.
-#[derive(Clone, Copy)]
-pub enum WalkAnswer {
-    Shown(usize),
-    Refused(u8),
-}
-
 // The walk that shows the verdict on a D or B node at an entry: the edges of the shortest walk that ends in an accepting state where
 // the node's own node holds (D) or fails (B), of equally short ones the one with the smallest edge where they first differ.
-// Its edges take the first places of `edges`, the rest keeps its content; a refusal alters nothing. Judging asks questions 31 and 32.
-pub fn walk(table: Table, log: &[u32], node: Node, entry: Entry, edges: &mut [u16]) -> WalkAnswer
+// Its edges take the first places of `edges`, and their count is answered; the rest keeps its content. A refusal, by the first question
+// that gets a no, alters nothing. Judging asks questions 31 and 32.
+pub fn walk(
+    table: Table,
+    log: &[u32],
+    node: Node,
+    entry: Entry,
+    edges: &mut [u16],
+) -> Result<usize, Refusal>
     ensures { answer_of result edges.new ≡ walk_outcome (well_formed table) (sheet_of table) log.now node.0 entry.0 edges.old }
 {
     let mut numbers = [0u32; PLACES];

@@ -9,20 +9,8 @@ mod show;
 use std::io;
 
 fn main(rt: HostRuntime) -> io::Result<()> {
-    let mut input = [0u8; cases::INPUT];
-    let n = cases::read_input(&rt, &mut input)?;
-    each(&rt, &input[..n])?;
+    cases::each(&rt, |line| case(&rt, line))?;
     calls::shorter(&rt)
-}
-
-// The cases in order.
-fn each(rt: &impl Print, lines: &[u8]) -> io::Result<()> {
-    let mut at: usize = 0;
-    while at < lines.len() {
-        case(rt, text::line_at(lines, at))?;
-        at = cases::past(lines, b'\n', at);
-    }
-    Ok(())
 }
 
 // A case's name and its outcome: a walk, or the longest one.

@@ -1,17 +1,15 @@
 -- `read_formula` meets its contract: the instructions that the text reads to, run one after the other, make what reading the text comes to. Assumes nothing.
-use mathlib.Core.Path.{◌∙◌}
-use native.Mathlib.Omega.{arith}
+use Rattle.std.proofs.lemmas.Result.{err_from_is_err_and}
 use Rattle.compile.proofs.Reading.{made_by, is_refused, is_coded}
 use Rattle.compile.proofs.read_formula.Goals as goal
 
-pub returns-then-number-ne0 : goal.returns-then-number-ne0
-returns-then-number-ne0 c =
-    let w = c.write_code-w in
-    c.refusal.ensures ∙ is_refused c.args.text.now w.result w.new.out w.ensures c.if-number-ne0.true
+pub returns-in_err-n : goal.returns-in_err-n
+returns-in_err-n c =
+    let p = err_from_is_err_and c.from_residual.result c.from_residual.ensures.1 in
+    rw (p.1, p.2) (is_refused c.args.text.now c.write_code.new.out c.in_err-n.field-0.0 c.in_err-n.ensures)
 
 pub returns : goal.returns
 unfolding made_by
 returns c =
-    let w = c.write_code-w in
-    c.made_answer.ensures
-    ∙ is_coded c.args.text.now w.result w.new.out w.ensures (omega arith) c.within-n.result c.make_table-m.result w.auto.out c.within-n.ensures c.make_table-m.ensures
+    rw c.ok_or.ensures.value
+    (is_coded c.args.text.now c.write_code.new.out c.in_ok-n.n c.min-n.result c.make_table.result c.in_ok-n.ensures c.write_code.auto.out c.min-n.ensures c.make_table.ensures)

@@ -1,5 +1,9 @@
 -- `rozsvelen_profile` meets its contract: question 35, then the profile's own answer, then its table's numbers. Assumes nothing.
+use Prim.Native.Nat.{ℕ}
+use mathlib.Core.Path.{refl, ap, ◌∙◌}
 use Rattle.crossing.specs.Numbers.{table_of}
+use Rattle.profile.proofs.Laws.{refused}
+use Rattle.exports.specs.Answers.{answer_code}
 use Rattle.exports.proofs.Sheets.{profile_short, profile_refused, profile_put}
 use Rattle.exports.proofs.rozsvelen_profile.Goals as goal
 
@@ -8,16 +12,13 @@ returns-then-out-ne-TABLE c =
     let a = c.args in
     profile_short a.table.now a.out.now _ c.if-out-ne-TABLE.true c.code.ensures
 
-pub returns-then-made-ne0 : goal.returns-then-made-ne0
-returns-then-made-ne0 c =
+pub returns-in-Ok : goal.returns-in-Ok
+returns-in-Ok c =
     let a = c.args in
-    let t = table_of a.table.now in
-    let p = c.to_profile_lent-made in
-    profile_refused a.table.now a.out.now p.result _ c.if-out-ne-TABLE.false (p.ensures t c.lend_table.ensures) c.code-then-made-ne0.ensures c.if-made-ne0.true
+    profile_put a.table.now a.out.now _ _ c.if-out-ne-TABLE.false (c.in-Ok.ensures (table_of a.table.now) c.lend_table.ensures) c.code-in-Ok.ensures _ refl c.put_table.ensures
 
-pub returns : goal.returns
-returns c =
+pub returns-in-Err : goal.returns-in-Err
+returns-in-Err c =
     let a = c.args in
-    let t = table_of a.table.now in
-    let p = c.to_profile_lent-made in
-    profile_put a.table.now a.out.now p.result _ c.if-out-ne-TABLE.false (p.ensures t c.lend_table.ensures) c.code-2.ensures _ c.if-made-ne0.false c.put_table.ensures
+    profile_refused a.table.now a.out.now _ _ c.if-out-ne-TABLE.false (c.in-Err.ensures (table_of a.table.now) c.lend_table.ensures)
+    (c.code-in-Err.ensures ∙ ap (λ (n : ℕ). answer_code n 0 0 0) c.number.ensures) (refused _)

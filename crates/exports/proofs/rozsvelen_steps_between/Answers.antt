@@ -4,4 +4,4 @@ use Rattle.exports.specs.Answers.{accepted}
 use Rattle.exports.proofs.rozsvelen_steps_between.Goals as goal
 
 pub returns : goal.returns
-returns c = c.code.ensures ∙ ap accepted c.steps_between-n.ensures
+returns c = c.code.ensures ∙ ap accepted (c.from.ensures ∙ c.steps_between-n.ensures)

@@ -10,5 +10,5 @@ overflow_sub-result c = omega (arith, ended_some c.args.rule.now (sym c.ends_in_
 pub returns-then-ends_in_lf : goal.returns-then-ends_in_lf
 returns-then-ends_in_lf c = ended_bytes c.args.rule.now (sym c.ends_in_lf.ensures ∙ c.if-ends_in_lf.true)
 
-pub returns : goal.returns
-returns c = open_bytes c.args.rule.now (sym c.ends_in_lf.ensures ∙ c.if-ends_in_lf.false)
+pub returns-else-ends_in_lf : goal.returns-else-ends_in_lf
+returns-else-ends_in_lf c = open_bytes c.args.rule.now (sym c.ends_in_lf.ensures ∙ c.if-ends_in_lf.false)

@@ -24,7 +24,10 @@ pub returns : goal.returns
 returns c =
     let a = c.args in
     let p = c.put_refusal-n in
-    let fits = refusal_length a.number a.place (omega arith) (omega arith) in
-    c.hand_over.ensures
+    let q = c.number.result in
+    let x = c.place.result in
+    let fits = refusal_length q x (omega arith) (omega arith) in
+    rw (← c.number.ensures, ← c.place.ensures)
+    (c.hand_over.ensures
     ∙ ap (λ (l : List ℕ). placed 44 l a.out.now)
-    (stored_there (refusal_line a.number a.place) (replicate 22 0) p.new.out p.result (omega (arith, fits, length-replicate {A = ℕ} 22 0)) (appends_whole _ _ _ _ p.ensures))
+    (stored_there (refusal_line q x) (replicate 22 0) p.new.out p.result (omega (arith, fits, length-replicate {A = ℕ} 22 0)) (appends_whole _ _ _ _ p.ensures)))

@@ -6,33 +6,14 @@ use Rattle.appending.proofs.Storing.{appends_none, appends_then, appends_same}
 use Rattle.lines.proofs.Passed.{edges_next}
 use Rattle.lines.proofs.put_edges.Goals as goal
 
-pub loop-i-init : goal.loop-i-init
+pub loop-edge-init : goal.loop-edge-init
 unfolding edges_below
-loop-i-init c = (omega arith, appends_none c.args.out.now c.args.at)
+loop-edge-init c = appends_none c.args.out.now c.args.at
 
-pub offset_bounds-edges-i : goal.offset_bounds-edges-i
-offset_bounds-edges-i c = omega arith
-
-pub bounds-edges-i : goal.bounds-edges-i
-bounds-edges-i c = omega arith
-
-pub overflow_add-i : goal.overflow_add-i
-overflow_add-i c = omega arith
-
-pub loop-i-smaller : goal.loop-i-smaller
-loop-i-smaller c = omega arith
-
-pub loop-i-preserved : goal.loop-i-preserved
-loop-i-preserved c =
-    let l = c.loop-i in
-    let a = c.args in
-    (omega arith, appends_same (edges_next a.edges.now l.i c.wide.result c.wide.ensures) (appends_then (appends_then l.invariant.1 c.put-edge_at.ensures) c.put_number-next.ensures))
-
-pub shape_of-out : goal.shape_of-out
-shape_of-out c = c.loop-i.invariant.1.size
+pub loop-edge-preserved : goal.loop-edge-preserved
+loop-edge-preserved c =
+    let l = c.loop-edge in
+    appends_same (edges_next c.args.edges.now l.edge-index c.from.result c.from.ensures) (appends_then (appends_then l.invariant c.put-edge_at.ensures) c.put_number-next.ensures)
 
 pub returns : goal.returns
-returns c =
-    let l = c.loop-i in
-    let a = c.args in
-    appends_same (ap (edges_below a.edges.now) (omega arith)) l.invariant.1
+returns c = appends_same (ap (edges_below c.args.edges.now) (omega arith)) c.loop-edge.invariant

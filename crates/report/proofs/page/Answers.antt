@@ -1,27 +1,28 @@
 -- page meets its contract: it is the line of a refused sheet, or the page by the table that the sheet was read to. Assumes nothing.
 use Prim.Native.Nat.{ℕ}
-use mathlib.Core.Path.{ap, sym, ◌∙◌}
+use mathlib.Core.Path.{refl, ap, sym, ◌∙◌}
 use mathlib.Core.List.{List}
-use Rattle.sheet.specs.declared.SheetAnswer.{SheetAnswer}
+use Rattle.sheet.specs.Answers.{SheetAnswer}
+use Rattle.sheet.specs.Questions.{accepted}
+use Rattle.sheet.proofs.Stops.{some_number}
 use Rattle.appending.specs.Placed.{placed}
 use Rattle.report.specs.Page.{sheet_page, page_of, page_outcome}
 use Rattle.report.proofs.Pages.{sheet_refused, sheet_read}
 use Rattle.report.proofs.page.Goals as goal
 
-pub returns-then-s-ne0 : goal.returns-then-s-ne0
+pub returns-in-Ok : goal.returns-in-Ok
 unfolding page_of page_outcome
-returns-then-s-ne0 c =
+returns-in-Ok c =
     let a = c.args in
-    let s = c.read_sheet-s in
-    c.refused_page.ensures
-    ∙ ap (λ (l : List ℕ). placed 44 l a.out.now) (sym (sheet_refused s.result a.steps.now c.if-s-ne0.true))
-    ∙ ap (λ (s : SheetAnswer). placed 44 (sheet_page s a.steps.now) a.out.now) s.ensures
-
-pub returns : goal.returns
-unfolding page_of page_outcome
-returns c =
-    let a = c.args in
-    let s = c.read_sheet-s in
     c.rule_page.ensures
-    ∙ ap (λ (l : List ℕ). placed 44 l a.out.now) (sym (sheet_read s.result a.steps.now c.if-s-ne0.false))
-    ∙ ap (λ (s : SheetAnswer). placed 44 (sheet_page s a.steps.now) a.out.now) s.ensures
+    ∙ ap (λ (l : List ℕ). placed 44 l a.out.now) (sym (sheet_read (accepted c.in-Ok.table) a.steps.now refl))
+    ∙ ap (λ (s : SheetAnswer). placed 44 (sheet_page s a.steps.now) a.out.now) c.in-Ok.ensures
+
+pub returns-in-Err : goal.returns-in-Err
+unfolding page_of page_outcome
+returns-in-Err c =
+    let a = c.args in
+    let r = c.in-Err.refusal in
+    c.refused_page.ensures
+    ∙ ap (λ (l : List ℕ). placed 44 l a.out.now) (sym (sheet_refused _ a.steps.now (some_number r.question)))
+    ∙ ap (λ (s : SheetAnswer). placed 44 (sheet_page s a.steps.now) a.out.now) c.in-Err.ensures

@@ -23,8 +23,11 @@ slice_bounds-hand_over-end c =
 pub returns : goal.returns
 returns c =
     let a = c.args in
+    let r = a.refusal in
+    let q = c.number-number in
     let p = c.put_sheet_refusal-n in
-    let fits = sheet_refusal_length a.number a.line a.field (omega arith) (omega arith) (omega arith) in
+    let fits = sheet_refusal_length q.result r.line r.field (omega arith) (omega arith) (omega arith) in
     c.hand_over.ensures
     ∙ ap (λ (l : List ℕ). placed 44 l a.out.now)
-    (stored_there (sheet_refusal_line a.number a.line a.field) (replicate 22 0) p.new.out p.result (omega (arith, fits, length-replicate {A = ℕ} 22 0)) (appends_whole _ _ _ _ p.ensures))
+    (stored_there (sheet_refusal_line q.result r.line r.field) (replicate 22 0) p.new.out p.result (omega (arith, fits, length-replicate {A = ℕ} 22 0)) (appends_whole _ _ _ _ p.ensures)
+    ∙ ap (λ (n : ℕ). sheet_refusal_line n r.line r.field) q.ensures)

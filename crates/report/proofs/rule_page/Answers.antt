@@ -8,6 +8,6 @@ use Rattle.report.proofs.rule_page.Goals as goal
 pub returns-then-out-ge-BYTES : goal.returns-then-out-ge-BYTES
 returns-then-out-ge-BYTES c =
     let a = c.args in
-    let p = c.put_page-n in
+    let p = c.put_page in
     let fits = rule_page_fits a.table a.steps.now in
     placed_stored 44 (rule_page a.table a.steps.now) a.out.now p.new.out p.result (omega (arith, fits, c.if-out-ge-BYTES.true)) p.ensures

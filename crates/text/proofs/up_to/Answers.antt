@@ -1,31 +1,14 @@
--- up_to meets its contract: the bytes passed and those up to the separator from there on are those of the whole text. Assumes nothing.
-use native.Mathlib.Omega.{arith}
-use Rattle.text.proofs.Pieces.{up_to_here, up_to_on, up_to_end}
+-- up_to meets its contract: the bytes before the first separator are counted, or all of them. Assumes nothing.
+use Rattle.std.proofs.Common.{rules, tests, ◌≡◌, ◌==◌, position}
+use Rattle.std.proofs.lemmas.Iterator.{YieldsList-from_slice}
+use Rattle.std.proofs.lemmas.Iterator.Search.{position_from_yields_List}
+use Rattle.text.specs.Text.{up_to}
+use Rattle.text.proofs.Pieces.{up_to_position, up_to-le}
 use Rattle.text.proofs.up_to.Goals as goal
-
-pub loop-i-init : goal.loop-i-init
-loop-i-init c = omega arith
-
-pub bounds-s-i : goal.bounds-s-i
-bounds-s-i c = omega arith
-
-pub returns-then-s-i : goal.returns-then-s-i
-returns-then-s-i c =
-    let a = c.args in
-    omega (arith, up_to_here a.sep a.s.now c.loop-i.i c.loop-i-test.true c.if-s-i.true)
-
-pub overflow_add-i : goal.overflow_add-i
-overflow_add-i c = omega arith
-
-pub loop-i-smaller : goal.loop-i-smaller
-loop-i-smaller c = omega arith
-
-pub loop-i-preserved : goal.loop-i-preserved
-loop-i-preserved c =
-    let a = c.args in
-    omega (arith, up_to_on a.sep a.s.now c.loop-i.i c.loop-i-test.true c.if-s-i.false)
 
 pub returns : goal.returns
 returns c =
-    let a = c.args in
-    omega (arith, up_to_end a.sep a.s.now c.loop-i.i c.loop-i-test.false)
+    let s = c.args.s.now in
+    let e : c.position.result ≡ position (λ b. b == c.args.sep) s = position_from_yields_List (λ b. b == c.args.sep) _ _ c.position.result c.position.ensures.ran (YieldsList-from_slice s cc) (λ x b q k. search (rules, tests)) in
+    let w : c.unwrap_or.result ≡ up_to c.args.sep s = rw (c.unwrap_or.ensures, e) (up_to_position c.args.sep s) in
+    (w, rw w (up_to-le c.args.sep s))

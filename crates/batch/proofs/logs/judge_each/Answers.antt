@@ -44,9 +44,6 @@ pub loop-k-init : goal.loop-k-init
 loop-k-init c =
     λ t P. start (sheet_of t) c.args.words.now c.args.lengths.now c.args.verdicts.now c.args.held.now c.requires.lengths_value c.requires.lengths_value_2
 
-pub overflow_cast-end : goal.overflow_cast-end
-overflow_cast-end c = omega (arith, c.shared_slice_known-in-loop-k-1.given c.loop-k.k)
-
 pub overflow_add-end : goal.overflow_add-end
 overflow_add-end c = omega (arith, (known (goal.at.overflow_add-end c).In-loop-k).log.there)
 
@@ -77,7 +74,7 @@ judge_one-n-requires c =
     let n = cut (goal.at.judge_one-n-requires c).In-loop-k in
     let w = c.requires.prepared in
     let v = room_long (sheet_of w.0) a.words.now a.lengths.now a.verdicts.now a.held.now l.verdicts l.held l.at l.k (l.invariant w.0 w.1) c.loop-k-test.true in
-    record { prepared = c.requires.prepared; log_len_bound = (omega (arith, t.log.few, n), v) }
+    record { prepared = c.requires.prepared; log_len_bound = rw c.from.ensures (omega (arith, t.log.few, n), v) }
 
 pub overflow_cast-held : goal.overflow_cast-held
 overflow_cast-held c =
@@ -85,7 +82,7 @@ overflow_cast-held c =
     let w = c.requires.prepared in
     let l = c.loop-k in
     let n = get_or a.lengths.now l.k 0 in
-    omega (arith, c.judge_one-n.ensures.value w.0 w.1, held_le (sheet_of w.0) (take (l.at + n - l.at) (drop l.at a.words.now)), cut (goal.at.overflow_cast-held c).In-loop-k, (known (goal.at.overflow_cast-held c).In-loop-k).log.few)
+    omega (arith, rw c.from.ensures at (c.judge_one-n.ensures.value w.0 w.1), held_le (sheet_of w.0) (take (l.at + n - l.at) (drop l.at a.words.now)), cut (goal.at.overflow_cast-held c).In-loop-k, (known (goal.at.overflow_cast-held c).In-loop-k).log.few)
 
 pub offset_bounds-held-k : goal.offset_bounds-held-k
 offset_bounds-held-k c = let t = (known (goal.at.offset_bounds-held-k c).In-loop-k).held_room in let e = long_held (goal.at.offset_bounds-held-k c).At-loop-k in omega arith
@@ -99,14 +96,8 @@ loop-k-preserved c =
     let w = c.requires.prepared in
     let l = c.loop-k in
     let j = c.judge_one-n in
-    λ t P. next (sheet_of t) a.words.now a.lengths.now a.verdicts.now a.held.now l.verdicts l.held l.at l.k (l.invariant t P) c.loop-k-test.true
-    j.new.verdicts j.result (j.ensures.verdicts_after t P) (j.ensures.value t P)
-
-pub shape_of-verdicts : goal.shape_of-verdicts
-shape_of-verdicts c = long (goal.at.shape_of-verdicts c).At-loop-k
-
-pub shape_of-held : goal.shape_of-held
-shape_of-held c = long_held (goal.at.shape_of-held c).At-loop-k
+    λ t P. rw c.from.ensures (next (sheet_of t) a.words.now a.lengths.now a.verdicts.now a.held.now l.verdicts l.held l.at l.k (l.invariant t P) c.loop-k-test.true
+    j.new.verdicts j.result (rw c.from.ensures at (j.ensures.verdicts_after t P)) (rw c.from.ensures at (j.ensures.value t P)))
 
 pub returns : goal.returns
 returns c =

@@ -1,5 +1,3 @@
-use Prim.Native.Nat.{◌-◌}
-use lib.ListN.{length}
 use Rattle.aldlf.specs.Sheet.{sheet_of}
 use Rattle.aldlf.specs.declared.Table.{Table}
 use Rattle.judge.specs.Prepared.{Prepared}
@@ -9,6 +7,3 @@ use Rattle.batch.proofs.logs.judge_each.Given as goal
 abbrev pub invariant-loop-k : goal.invariant-loop-k
 invariant-loop-k l =
     (t : Table) → Prepared t l.plain l.numbers → Judged (sheet_of t) l.words l.lengths l.initial.verdicts l.initial.held l.verdicts l.held l.at l.k
-
-abbrev pub decreases-loop-k : goal.decreases-loop-k
-decreases-loop-k l = length l.lengths - l.k

@@ -1,6 +1,9 @@
 -- `asked` meets its contract: the questions in the definition's order. Assumes nothing.
 use mathlib.Core.Bool.{true}
-use mathlib.Core.Path.{◌≡◌, sym, ◌∙◌}
+use Prim.Native.Nat.{◌+◌}
+use native.Mathlib.Numerals.{add-one}
+use native.Mathlib.Omega.{arith}
+use mathlib.Core.Path.{◌≡◌, refl, sym, ◌∙◌}
 use Rattle.aldlf.specs.declared.Table.{Table}
 use Rattle.packing.specs.Packed.{Packed}
 use Rattle.sheet.specs.Given.{well_formed}
@@ -16,22 +19,20 @@ returns-then-not-is_given_packed c =
     let a = c.args in
     λ t P. no_31 (well_formed t) a.words a.lengths.now a.verdicts a.held (sym (c.is_given_packed.ensures t P) ∙ c.if-not-is_given_packed.true)
 
-pub returns-then-m-ne0 : goal.returns-then-m-ne0
-returns-then-m-ne0 c =
+pub returns-in-Some : goal.returns-in-Some
+returns-in-Some c =
     let a = c.args in
-    let m = c.first_misfit-m in
-    λ t P. no_32 (well_formed t) a.words a.lengths.now a.verdicts a.held (given (goal.at.returns-then-m-ne0 c).Else-not-is_given_packed t P) m.result m.ensures c.if-m-ne0.true
+    let k = c.in-Some.k in
+    λ t P. no_32 (well_formed t) a.words a.lengths.now a.verdicts a.held (given (goal.at.returns-in-Some c).Else-not-is_given_packed t P) (k + 1) (add-one k ∙ c.in-Some.ensures.found) (λ z. omega arith)
 
-pub returns-then-r-ne0 : goal.returns-then-r-ne0
-returns-then-r-ne0 c =
+pub returns-in-Some-first_without_room : goal.returns-in-Some-first_without_room
+returns-in-Some-first_without_room c =
     let a = c.args in
-    let m = c.first_misfit-m in
-    let r = c.first_without_room-r in
-    λ t P. no_33 (well_formed t) a.words a.lengths.now a.verdicts a.held (given (goal.at.returns-then-r-ne0 c).Else-not-is_given_packed t P) m.result m.ensures c.if-m-ne0.false r.result r.ensures c.if-r-ne0.true
+    let s = c.in-Some-first_without_room in
+    let g = (goal.at.returns-in-Some-first_without_room c).Else-not-is_given_packed in
+    λ t P. no_33 (well_formed t) a.words a.lengths.now a.verdicts a.held (given g t P) 0 c.in_default.ensures.found refl (s.k + 1) (add-one s.k ∙ s.ensures.found) (λ z. omega arith)
 
 pub returns : goal.returns
 returns c =
     let a = c.args in
-    let m = c.first_misfit-m in
-    let r = c.first_without_room-r in
-    λ t P. all_yes (well_formed t) a.words a.lengths.now a.verdicts a.held (given (goal.at.returns c).Else-not-is_given_packed t P) m.result m.ensures c.if-m-ne0.false r.result r.ensures c.if-r-ne0.false
+    λ t P. all_yes (well_formed t) a.words a.lengths.now a.verdicts a.held (given (goal.at.returns c).Else-not-is_given_packed t P) 0 c.in_default.ensures.found refl 0 c.in_default-first_without_room.ensures.found refl

@@ -13,9 +13,11 @@ loop-k-init c = lent_none is_byte (λ (b : ℕ). b) (λ (x : ℕ). x % 256) (edg
 pub loop-k-preserved : goal.loop-k-preserved
 loop-k-preserved c =
     let l = c.loop-k in
-    lent_next is_byte (λ (b : ℕ). b) (λ (x : ℕ). x % 256) (edge_byte c.args.xs.now) 0 0 edge_bytes c.args.bytes.now l.k l.k l.fit _ l.bytes _ l.invariant c.loop-k-test.true (omega arith) (omega (arith, c.loop-k-test.true, l.invariant.put.same, c.requires.1)) refl refl
+    lent_next is_byte (λ (b : ℕ). b) (λ (x : ℕ). x % 256) (edge_byte c.args.xs.now) 0 0 edge_bytes c.args.bytes.now l.k l.k l.fit _ l.bytes _ l.invariant
+    (omega (arith, c.loop-k-test.true, c.requires.1)) (omega arith) (omega (arith, c.loop-k-test.true, l.auto.bytes)) refl refl
 
 pub returns : goal.returns
 returns c =
     let l = c.loop-k in
-    edges_cut c.args.xs.now c.args.bytes.now l.bytes l.fit c.requires.1 (lent_all is_byte (λ (b : ℕ). b) (λ (x : ℕ). x % 256) (edge_byte c.args.xs.now) 0 0 edge_bytes c.args.bytes.now l.k l.fit l.bytes l.invariant c.loop-k-test.false)
+    edges_cut c.args.xs.now c.args.bytes.now l.bytes l.fit c.requires.1
+    (lent_all is_byte (λ (b : ℕ). b) (λ (x : ℕ). x % 256) (edge_byte c.args.xs.now) 0 0 edge_bytes c.args.bytes.now l.k l.fit l.bytes l.invariant (omega (arith, c.loop-k-test.false, c.requires.1)))

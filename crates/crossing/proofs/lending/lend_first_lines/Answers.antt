@@ -2,7 +2,7 @@
 use Prim.Native.Nat.{◌+◌, ◌*◌}
 use Rattle.aldlf.specs.Constants.{node_limit}
 use Rattle.aldlf.specs.Sheet.{no_line}
-use Rattle.crossing.proofs.Lent.{lent_none, lent_next, lent_first}
+use Rattle.crossing.proofs.Lent.{lent_none, lent_next}
 use Rattle.crossing.specs.Numbers.{line_size, line_at, line_fits}
 use Rattle.crossing.specs.Steps.{line_cut}
 use Rattle.packing.specs.Numbers.{lines_place, line_in}
@@ -10,16 +10,11 @@ use native.Mathlib.Omega.{arith}
 use Rattle.crossing.proofs.lending.lend_first_lines.Goals as goal
 
 pub loop-k-init : goal.loop-k-init
-loop-k-init c =
-    (omega arith, lent_none line_fits line_in line_cut (λ i. line_at c.args.xs.now (line_size * i)) no_line lines_place node_limit c.args.numbers.now)
+loop-k-init c = lent_none line_fits line_in line_cut (λ i. line_at c.args.xs.now (line_size * i)) no_line lines_place node_limit c.args.numbers.now
 
 pub loop-k-preserved : goal.loop-k-preserved
 loop-k-preserved c =
     let l = c.loop-k in
     let t = c.loop-k-test.true in
-    (omega (arith, t), lent_next line_fits line_in line_cut (λ i. line_at c.args.xs.now (line_size * i)) no_line lines_place node_limit c.args.numbers.now l.k (lines_place + l.k) l.fit _ l.numbers c.line_number.result l.invariant.1 (omega (arith, t, c.requires.0)) (omega arith) (omega (arith, t, l.invariant.1.put.same, c.requires.0, c.requires.2)) c.line_fits-fit.ensures c.line_number.ensures)
-
-pub returns : goal.returns
-returns c =
-    let l = c.loop-k in
-    lent_first line_fits line_in line_cut (λ i. line_at c.args.xs.now (line_size * i)) no_line lines_place node_limit c.args.numbers.now c.args.n l.k l.fit l.numbers l.invariant.1 l.invariant.0 c.loop-k-test.false
+    lent_next line_fits line_in line_cut (λ i. line_at c.args.xs.now (line_size * i)) no_line lines_place node_limit c.args.numbers.now l.k (lines_place + l.k) l.fit _ l.numbers c.line_number.result l.invariant
+    (omega (arith, t, c.requires.0)) (omega arith) (omega (arith, t, l.auto.numbers, c.requires.0, c.requires.2)) c.line_fits-fit.ensures c.line_number.ensures

@@ -1,4 +1,5 @@
-use Prim.Native.Nat.{◌*◌, ◌-◌, ◌≤◌}
+-- lend_first_lines: those passed stand in their places, and it is known whether they fit.
+use Prim.Native.Nat.{◌*◌}
 use Rattle.aldlf.specs.Constants.{node_limit}
 use Rattle.aldlf.specs.Sheet.{no_line}
 use Rattle.crossing.proofs.Lent.{SoFar}
@@ -8,7 +9,4 @@ use Rattle.packing.specs.Numbers.{lines_place, line_in}
 use Rattle.crossing.proofs.lending.lend_first_lines.Given as goal
 
 abbrev pub invariant-loop-k : goal.invariant-loop-k
-invariant-loop-k l = (l.k ≤ l.n) × SoFar line_fits line_in line_cut (λ i. line_at l.xs (line_size * i)) no_line lines_place node_limit l.k l.fit l.initial.numbers l.numbers
-
-abbrev pub decreases-loop-k : goal.decreases-loop-k
-decreases-loop-k l = l.n - l.k
+invariant-loop-k l = SoFar line_fits line_in line_cut (λ i. line_at l.xs (line_size * i)) no_line lines_place node_limit l.k l.fit l.initial.numbers l.numbers

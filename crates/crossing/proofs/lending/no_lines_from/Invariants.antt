@@ -1,10 +1,8 @@
-use Prim.Native.Nat.{◌*◌, ◌-◌, ◌≤◌}
+-- no_lines_from: the or of the places passed.
+use Prim.Native.Nat.{◌*◌, ◌+◌}
 use Rattle.crossing.proofs.Rest.{Joined}
-use Rattle.crossing.specs.Numbers.{line_size, automata_place}
+use Rattle.crossing.specs.Numbers.{line_size}
 use Rattle.crossing.proofs.lending.no_lines_from.Given as goal
 
-abbrev pub invariant-loop-i : goal.invariant-loop-i
-invariant-loop-i l = (l.i ≤ automata_place) × Joined l.xs (line_size * l.n) l.i l.rest
-
-abbrev pub decreases-loop-i : goal.decreases-loop-i
-decreases-loop-i l = automata_place - l.i
+abbrev pub invariant-loop-x : goal.invariant-loop-x
+invariant-loop-x l = Joined l.fn.xs (line_size * l.fn.n) (line_size * l.fn.n + l.x-index) l.rest

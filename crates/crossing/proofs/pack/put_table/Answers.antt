@@ -7,4 +7,4 @@ pub returns : goal.returns
 returns c =
     let a = c.args in
     let s : Sized a.t = record { nodes = omega arith; automata = omega arith; edges = omega arith } in
-    put_whole a.t s a.out.now _ _ _ _ c.requires c.put_lines.ensures c.put_automata.ensures c.put_edges.ensures c.put_used.ensures
+    put_whole a.t s a.out.now _ _ _ _ c.requires c.put_all.ensures c.put_all-2.ensures c.put_all-3.ensures c.put_used.ensures

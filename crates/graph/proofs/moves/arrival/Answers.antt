@@ -1,6 +1,7 @@
 -- `arrival` meets its contract, test by test. Assumes nothing.
-use Prim.Native.Nat.{ℕ}
-use mathlib.Core.Path.{◌≡◌, refl, sym, ap₂, ◌∙◌}
+use Prim.Native.Nat.{ℕ, ◌<◌}
+use Rattle.std.proofs.Common.{IfSome}
+use mathlib.Core.Path.{◌≡◌, sym, subst, ap₂, ◌∙◌}
 use mathlib.Core.Bool.{Bool}
 use native.Mathlib.Omega.{arith}
 use Rattle.aldlf.specs.Sheet.{bit}
@@ -22,7 +23,7 @@ verdict-requires c = (c.requires.0, pair_room c.args.words.now c.args.i.0 c.requ
 
 pub returns-then-not-verdict : goal.returns-then-not-verdict
 returns-then-not-verdict c =
-    (sym (test_off (paired c.args.words.now) c.args.e c.args.i.0 (sym (read (goal.at.returns-then-not-verdict c).Start _ c.verdict.ensures) ∙ c.if-not-verdict.true)), λ f. absurd (f refl))
+    (sym (test_off (paired c.args.words.now) c.args.e c.args.i.0 (sym (read (goal.at.returns-then-not-verdict c).Start _ c.verdict.ensures) ∙ c.if-not-verdict.true)), tt)
 
 pub overflow_cast-words : goal.overflow_cast-words
 overflow_cast-words c = omega (arith, c.requires.2, length-paired c.args.words.now)
@@ -35,7 +36,7 @@ returns c =
     let W = paired c.args.words.now in
     let i = c.args.i.0 in (
       c.entry_before.ensures.0
-          ∙ ap₂ (λ (d n : ℕ). entry_before d i n) c.turned-dir.ensures (sym (length-paired c.args.words.now))
+          ∙ ap₂ (λ (d n : ℕ). entry_before d i n) c.turned.ensures (sym (length-paired c.args.words.now))
           ∙ sym (test_on W c.args.e i (sym (read (goal.at.returns c).Start _ c.verdict.ensures) ∙ c.if-not-verdict.false)),
-      λ f. omega (arith, c.entry_before.ensures.1 f, length-paired c.args.words.now),
+      subst (λ (n : ℕ). IfSome c.entry_before.result (λ j. j.0 < n)) (sym (length-paired c.args.words.now)) c.entry_before.ensures.1,
     )

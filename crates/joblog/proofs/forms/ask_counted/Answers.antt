@@ -1,58 +1,83 @@
 -- ask_counted meets its contract: each early return is a question that the definition asks at the same place. Assumes nothing.
-use Rattle.std.proofs.Common.{◌≡◌, ℕ, ◌<◌, true, false, length, sym, ap, ◌∙◌, arith}
+use Rattle.std.proofs.Common.{◌≡◌, ℕ, ◌<◌, true, false, List, length, sym, ap, ◌∙◌, Err, arith, rules}
 use Rattle.text.specs.Text.{comma, up_to}
+use Rattle.joblog.specs.declared.LogQuestion.TheVariants as question
 use Rattle.joblog.specs.Log.{facts_of, question_of}
 use Rattle.joblog.specs.Counted.{counter_limit, next_counter, counter_at, facts_at, follows}
-use Rattle.joblog.proofs.CountedLine.{asked_no, line_24, facts_24, line_28, line_29, line_facts}
+use Rattle.joblog.specs.Results.{facts_result}
+use Rattle.joblog.specs.Steps.{due_of}
+use Rattle.joblog.proofs.CountedLine.{line_24, facts_24, line_28, line_29, line_facts}
+use Rattle.joblog.proofs.Results.{facts_ok, facts_err, facts_listed, follows_not, follows_next}
 use Rattle.joblog.proofs.forms.ask_counted.Goals as goal
-use Rattle.joblog.proofs.forms.ask_counted.Goals.{After-question_of-q, Else-n-ge-COUNTERS}
+use Rattle.joblog.proofs.forms.ask_counted.Goals.{After-facts_of-facts, Else-eq, In_ok-counter, Else-ne, then-up_to-line-via-then-up_to-line, then-up_to-line-via-else-up_to-line+then-eq}
+
+-- the facts are those of what follows the comma
+facts : (c : After-facts_of-facts) → c.facts_of-facts.result ≡ facts_result (facts_at c.args.line.now)
+facts c = c.facts_of-facts.ensures ∙ ap (λ (s : List ℕ). facts_result (facts_of s)) c.after_comma.ensures
 
 pub returns-then-up_to-line : goal.returns-then-up_to-line
 returns-then-up_to-line c =
     let a = c.args in
-    asked_no a.due.0 a.line.now c.no.result 24 c.no.ensures (line_24 a.due.0 a.line.now (sym c.up_to.ensures.0 ∙ c.if-up_to-line.true)) (λ z. omega arith)
-
--- what is asked of the facts, and that a comma stands before them
-number : (c : After-question_of-q) → c.question_of-q.result ≡ question_of (facts_at c.args.line.now)
-number c = c.question_of-q.ensures ∙ ap question_of (c.facts_of.ensures ∙ ap facts_of c.after_comma.ensures)
-
-parted : (c : After-question_of-q) → up_to comma c.args.line.now < length c.args.line.now
-parted c = omega (arith, c.up_to.ensures.0, c.up_to.ensures.1, c.if-up_to-line.false)
-
-pub returns-then-q-eq24 : goal.returns-then-q-eq24
-returns-then-q-eq24 c =
-    let a = c.args in
-    asked_no a.due.0 a.line.now c.no-then-q-eq24.result 24 c.no-then-q-eq24.ensures (facts_24 a.due.0 a.line.now (sym (number (goal.at.returns-then-q-eq24 c).After-question_of-q) ∙ c.if-q-eq24.true)) (λ z. omega arith)
+    let here = (goal.at.returns-then-up_to-line c).After-facts_of-facts in
+    elim c.then-up_to-line.branch [
+      | then-up_to-line-via-then-up_to-line w ↦ sym (line_24 (due_of a.due) a.line.now (omega (arith, c.up_to.ensures.0, w.if-up_to-line.true)))
+      | then-up_to-line-via-else-up_to-line+then-eq w ↦ (
+          let e : c.facts_of-facts.result ≡ Err question.NotNumbers = search rules in
+          sym (facts_24 (due_of a.due) a.line.now (facts_err (facts_at a.line.now) question.NotNumbers (sym (facts here) ∙ e))))
+    ]
 
 -- question 24 got a yes
-listed : (q k : ℕ) → q ≡ k → (q ≡ 24 → ⊥) → k ≡ 24 → ⊥
-listed q k e f is = f (e ∙ is)
+parted : (c : Else-eq) → up_to comma c.args.line.now < length c.args.line.now
+parted c = omega (arith, c.up_to.ensures.0, c.up_to.ensures.1, c.if-up_to-line.false)
 
-pub returns-then-n-ge-COUNTERS : goal.returns-then-n-ge-COUNTERS
-returns-then-n-ge-COUNTERS c =
+listed : (c : Else-eq) → c.facts_of-facts.result ≡ facts_result (facts_at c.args.line.now) → question_of (facts_at c.args.line.now) ≡ 24 → ⊥
+listed c is =
+    facts_listed (facts_at c.args.line.now) (λ e.
+    let h : false ≡ true = sym c.if-eq.false ∙ rw (is ∙ e) at c.eq.ensures in
+    cc)
+
+pub returns-in_err-counter : goal.returns-in_err-counter
+returns-in_err-counter c =
     let a = c.args in
-    asked_no a.due.0 a.line.now c.no-then-n-ge-COUNTERS.result 28 c.no-then-n-ge-COUNTERS.ensures (line_28 a.due.0 a.line.now (parted (goal.at.returns-then-n-ge-COUNTERS c).After-question_of-q) (listed c.question_of-q.result _ (number (goal.at.returns-then-n-ge-COUNTERS c).After-question_of-q) (λ z. omega arith)) (rw (sym c.counter_at-n.ensures) c.if-n-ge-COUNTERS.true)) (λ z. omega arith)
+    let at = goal.at.returns-in_err-counter c in
+    let here = at.Else-eq in
+    let big = rw c.in_err-counter.ensures.ok_part at c.counter_at.ensures in
+    let e : c.from_residual.result ≡ Err question.NotCounter = search rules in
+    rw e (sym (line_28 (due_of a.due) a.line.now (parted here) (listed here (facts at.After-facts_of-facts)) big))
 
 -- question 28 got a yes
-small : (c : Else-n-ge-COUNTERS) → counter_at c.args.line.now < counter_limit
-small c = rw (sym c.counter_at-n.ensures) c.if-n-ge-COUNTERS.false
+counter : (c : In_ok-counter) → c.in_ok-counter.counter.0 ≡ counter_at c.args.line.now
+counter c = rw c.in_ok-counter.ensures.ok_part at c.counter_at.ensures
 
-pub overflow_cast-c : goal.overflow_cast-c
-overflow_cast-c c = record { fits = omega (arith, c.if-n-ge-COUNTERS.false) }
+small : (c : In_ok-counter) → counter_at c.args.line.now < counter_limit
+small c = omega (arith, counter c)
 
-pub returns-then-not-comes_next : goal.returns-then-not-comes_next
-returns-then-not-comes_next c =
+pub returns-then-ne : goal.returns-then-ne
+returns-then-ne c =
     let a = c.args in
-    let n = c.comes_next in
-    let f : follows a.due.0 (counter_at a.line.now) ≡ false = rw (sym c.counter_at-n.ensures) (sym n.ensures ∙ c.if-not-comes_next.true) in
-    asked_no a.due.0 a.line.now c.no-then-not-comes_next.result 29 c.no-then-not-comes_next.ensures (line_29 a.due.0 a.line.now (parted (goal.at.returns-then-not-comes_next c).After-question_of-q) (listed c.question_of-q.result _ (number (goal.at.returns-then-not-comes_next c).After-question_of-q) (λ z. omega arith)) (small (goal.at.returns-then-not-comes_next c).Else-n-ge-COUNTERS) f) (λ z. omega arith)
+    let at = goal.at.returns-then-ne c in
+    let e : follows (due_of a.due) c.in_ok-counter.counter.0 ≡ false = follows_not a.due c.in_ok-counter.counter (rw (← c.unwrap_or.ensures) (omega arith)) (rw (← c.unwrap_or.ensures) (sym c.ne.ensures ∙ c.if-ne.true)) in
+    sym (line_29 (due_of a.due) a.line.now (parted at.Else-eq) (listed at.Else-eq (facts at.After-facts_of-facts)) (small at.In_ok-counter) (ap (follows (due_of a.due)) (sym (counter at.In_ok-counter)) ∙ e))
+
+-- question 29 got a yes
+next : (c : Else-ne) → follows (due_of c.args.due) c.in_ok-counter.counter.0 ≡ true
+next c = follows_next c.args.due c.in_ok-counter.counter (rw (← c.unwrap_or.ensures) (sym c.ne.ensures ∙ c.if-ne.false))
+
+pub returns-in_err-facts : goal.returns-in_err-facts
+returns-in_err-facts c =
+    let a = c.args in
+    let at = goal.at.returns-in_err-facts c in
+    let is = facts at.After-facts_of-facts in
+    let e : c.from_residual-in_err-facts.result ≡ Err c.in_err-facts.field-0.0 = search rules in
+    let f = ap (follows (due_of a.due)) (sym (counter at.In_ok-counter)) ∙ next at.Else-ne in
+    rw e (sym (line_facts (due_of a.due) a.line.now (parted at.Else-eq) (listed at.Else-eq is) (small at.In_ok-counter) f) ∙ facts_err (facts_at a.line.now) c.in_err-facts.field-0.0 (sym is ∙ c.in_err-facts.was))
 
 pub returns : goal.returns
 returns c =
     let a = c.args in
-    let n = c.comes_next in
-    let f : follows a.due.0 (counter_at a.line.now) ≡ true = rw (sym c.counter_at-n.ensures) (sym n.ensures ∙ c.if-not-comes_next.false) in
-    record {
-      number = number (goal.at.returns c).After-question_of-q ∙ line_facts a.due.0 a.line.now (parted (goal.at.returns c).After-question_of-q) (listed c.question_of-q.result _ (number (goal.at.returns c).After-question_of-q) (λ z. omega arith)) (small (goal.at.returns c).Else-n-ge-COUNTERS) f;
-      next = λ _. c.due_after-next.ensures ∙ ap next_counter c.counter_at-n.ensures;
-    }
+    let at = goal.at.returns c in
+    let is = facts at.After-facts_of-facts in
+    let f = ap (follows (due_of a.due)) (sym (counter at.In_ok-counter)) ∙ next at.Else-ne in (
+      sym (line_facts (due_of a.due) a.line.now (parted at.Else-eq) (listed at.Else-eq is) (small at.In_ok-counter) f) ∙ facts_ok (facts_at a.line.now) c.in_ok-facts.field-0 (sym is ∙ c.in_ok-facts.was),
+      c.next_counter.ensures ∙ ap next_counter (counter at.In_ok-counter),
+    )

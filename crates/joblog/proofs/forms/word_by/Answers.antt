@@ -1,15 +1,17 @@
 -- word_by meets its contract: the facts follow the comma, or are the line. Assumes nothing.
-use Rattle.std.proofs.Common.{ℕ, Bool, List, sym, ap, ◌∙◌}
-use Rattle.joblog.specs.Log.{word_in, facts_of}
+use Rattle.std.proofs.Common.{◌≡◌, ap, ◌∙◌}
+use Rattle.std.specs.Result.{result_unwrap_or}
+use Rattle.joblog.specs.Log.{facts_of, word_in}
 use Rattle.joblog.specs.Steps.{facts_by}
+use Rattle.joblog.proofs.Results.{facts_word}
 use Rattle.joblog.proofs.forms.word_by.Goals as goal
-
-pub returns-then-counted : goal.returns-then-counted
-returns-then-counted c =
-    let l = c.args.line.now in
-    c.word_of.ensures ∙ ap (λ (s : List ℕ). word_in (facts_of s)) c.after_comma.ensures ∙ ap (λ (b : Bool). word_in (facts_by b l)) (sym c.if-counted.true)
+use Rattle.joblog.proofs.forms.word_by.Goals.{then-counted, else-counted}
 
 pub returns : goal.returns
 returns c =
-    let l = c.args.line.now in
-    c.word_of-2.ensures ∙ ap (λ (b : Bool). word_in (facts_by b l)) (sym c.if-counted.false)
+    let a = c.args in
+    let f : facts_of c.if-counted.facts.now ≡ facts_by a.counted a.line.now = elim c.if-counted.branch [
+      | then-counted w ↦ rw (w.if-counted.true, w.facts-is, w.after_comma-facts.ensures)
+      | else-counted w ↦ rw (w.if-counted.false, w.facts-is)
+    ] in
+    c.unwrap_or.ensures ∙ ap (λ r. result_unwrap_or r 0) c.facts_of.ensures ∙ facts_word (facts_of c.if-counted.facts.now) ∙ ap word_in f

@@ -23,7 +23,7 @@ use Rattle.judge.proofs.engine.judge_nodes.Goals.{After-automaton_at-automaton, 
 
 -- the node is on the sheet
 k_in : (c : In-loop-k) → c.loop-k.k < node_limit
-k_in c = let L = c.requires.lent.1 in omega (arith, in_sheet _ _ c.loop-k.k _ L c.loop-k-test.true c.loop-k.invariant.1, L.facts.nodes≤)
+k_in c = let L = c.requires.lent.1 in omega (arith, in_sheet _ _ c.loop-k.k _ L c.loop-k-test.true (ap (λ (u : Used). u.nodes) c.used_in-count.ensures), L.facts.nodes≤)
 
 m_in : (c : After-automaton_number-m) → c.automaton_number-m.result < automaton_limit
 m_in c =
@@ -32,7 +32,7 @@ m_in c =
     let m = c.automaton_number-m.result in
     automaton_there t L.facts c.loop-k.k m
     (subst (λ (x : NodeLine). (modal_kind x.kind ≡ true → m ≡ x.a) × (modal_kind x.kind ≡ false → m ≡ 0))
-    (c.line_at-line.ensures ∙ line_there t _ _ _ L c.loop-k-test.true c.loop-k.invariant.1) c.automaton_number-m.ensures)
+    (c.line_at-line.ensures ∙ line_there t _ _ _ L c.loop-k-test.true (ap (λ (u : Used). u.nodes) c.used_in-count.ensures)) c.automaton_number-m.ensures)
 
 job : (c : After-automaton_at-automaton) → Job
 job c =
@@ -44,21 +44,16 @@ known : (c : After-automaton_at-automaton) → (t : Table) → Lent t c.args.num
 unfolding job
 known c t L b = record {
   lent = L;
-  in_table = in_sheet t _ _ _ L c.loop-k-test.true c.loop-k.invariant.1;
-  line_is = c.line_at-line.ensures ∙ line_there t _ _ _ L c.loop-k-test.true c.loop-k.invariant.1;
+  in_table = in_sheet t _ _ _ L c.loop-k-test.true (ap (λ (u : Used). u.nodes) c.used_in-count.ensures);
+  line_is = c.line_at-line.ensures ∙ line_there t _ _ _ L c.loop-k-test.true (ap (λ (u : Used). u.nodes) c.used_in-count.ensures);
   automaton_is = λ h. c.automaton_at-automaton.ensures ∙ L.packed.automaton_is c.automaton_number-m.result b ∙ ap (automaton_at t) (c.automaton_number-m.ensures.0 h);
   given_is = refl;
-  words_are = (c.loop-k.invariant.4 t L).words_are;
+  words_are = (c.loop-k.invariant.2 t L).words_are;
 }
-
-pub used_in-count-requires : goal.used_in-count-requires
-used_in-count-requires c = c.requires.lent.1.packed.size
 
 pub loop-k-init : goal.loop-k-init
 loop-k-init c =
     let n = c.requires.words_len in (
-      omega arith,
-      ap (λ (u : Used). u.nodes) c.used_in-count.ensures,
       n.2,
       refl,
       λ t L. record { words_are = words_none _ _ _ _ n.0 c.requires.by_index; row_is = filled_start _; held_is = λ l. absurd (omega arith); kept = kept_none _ _ _ _ 0 _ refl (n.1 ∙ ap (λ (z : ℕ). 49 * z) (sym (pairs c.args.log.now c.args.words.now n.0))) },
@@ -66,24 +61,15 @@ loop-k-init c =
       λ i. omega (arith, c.type_inv.words i),
     )
 
-pub line_at-line-requires : goal.line_at-line-requires
-line_at-line-requires c = (c.requires.lent.1.packed.size, k_in (goal.at.line_at-line-requires c).In-loop-k)
-
 pub automaton_at-automaton-requires : goal.automaton_at-automaton-requires
 automaton_at-automaton-requires c = (c.requires.lent.1.packed.size, m_in (goal.at.automaton_at-automaton-requires c).After-automaton_number-m)
-
-pub offset_bounds-row-k : goal.offset_bounds-row-k
-offset_bounds-row-k c = omega (arith, k_in (goal.at.offset_bounds-row-k c).In-loop-k)
-
-pub bounds-row-k : goal.bounds-row-k
-bounds-row-k c = k_in (goal.at.bounds-row-k c).In-loop-k
 
 pub ready-have-requires : goal.ready-have-requires
 unfolding job
 ready-have-requires c =
     let t = c.requires.lent.0 in
     let L = c.requires.lent.1 in
-    let so = c.loop-k.invariant.4 t L in
+    let so = c.loop-k.invariant.2 t L in
     record { by_index = (t, c.args.part.row, c.args.log.now, known (goal.at.ready-have-requires c).After-automaton_at-automaton t L (m_in (goal.at.ready-have-requires c).After-automaton_number-m)); steps_len = (so.kept.long, omega (arith, so.words_are.size, c.requires.words_len.3)) }
 
 pub judge_node-a-requires : goal.judge_node-a-requires
@@ -92,32 +78,18 @@ judge_node-a-requires c =
     let t = c.requires.lent.0 in
     let L = c.requires.lent.1 in
     let known_here = known (goal.at.judge_node-a-requires c).After-automaton_at-automaton t L (m_in (goal.at.judge_node-a-requires c).After-automaton_number-m) in
-    let ready = c.ready-have.ensures t c.args.part.row c.args.log.now known_here (c.loop-k.invariant.4 t L).kept in
-    record { by_index = (t, c.args.part.row, c.args.numbers.now, known_here); placed = λ m. (ready.mine m).placed; masks_len = (c.loop-k.invariant.2, c.requires.words_len.3) }
-
-pub offset_bounds-out-k : goal.offset_bounds-out-k
-offset_bounds-out-k c = omega (arith, k_in (goal.at.offset_bounds-out-k c).In-loop-k)
-
-pub bounds-out-k : goal.bounds-out-k
-bounds-out-k c = k_in (goal.at.bounds-out-k c).In-loop-k
-
-pub overflow_add-k : goal.overflow_add-k
-overflow_add-k c = omega (arith, k_in (goal.at.overflow_add-k c).In-loop-k)
-
-pub loop-k-smaller : goal.loop-k-smaller
-loop-k-smaller c = omega (arith, c.loop-k-test.true)
+    let ready = c.ready-have.ensures t c.args.part.row c.args.log.now known_here (c.loop-k.invariant.2 t L).kept in
+    record { by_index = (t, c.args.part.row, c.args.numbers.now, known_here); placed = λ m. (ready.mine m).placed; masks_len = (c.loop-k.invariant.0, c.requires.words_len.3) }
 
 pub loop-k-preserved : goal.loop-k-preserved
 unfolding job
 loop-k-preserved c =
     let l = c.loop-k in
     let r = c.judge_node-a in (
-      omega (arith, c.loop-k-test.true),
-      l.invariant.1,
-      r.auto.masks ∙ l.invariant.2,
-      length-set l.out l.k r.result.number ∙ l.invariant.3,
+      r.auto.masks ∙ l.invariant.0,
+      length-set l.out l.k r.result.number ∙ l.invariant.1,
       λ t L.
-          let so = l.invariant.4 t L in
+          let so = l.invariant.2 t L in
           let known_here = known (goal.at.loop-k-preserved c).After-automaton_at-automaton t L (m_in (goal.at.loop-k-preserved c).After-automaton_number-m) in
           let ready = c.ready-have.ensures t c.args.part.row c.args.log.now known_here so.kept in
           let d = r.ensures t c.args.part.row c.args.numbers.now known_here ready.mine in
@@ -127,20 +99,9 @@ loop-k-preserved c =
             held_is = λ _. held_last (length c.args.log.now) (paired r.new.words) l.k r.result.held d.held_is;
             kept = kept_next t c.args.part.row c.args.log.now c.args.numbers.now (paired l.words) _ _ l.k _ L so.words_are d.words_are ready.kept;
           },
-      r.auto.words ∙ l.invariant.5,
+      r.auto.words ∙ l.invariant.3,
       λ i. omega (arith, c.type_inv.words i),
     )
-
-pub shape_of-words : goal.shape_of-words
-shape_of-words c = c.loop-k.invariant.5 ∙ sym c.requires.words_len.0
-
-pub shape_of-steps : goal.shape_of-steps
-shape_of-steps c =
-    let so = c.loop-k.invariant.4 c.requires.lent.0 c.requires.lent.1 in
-    so.kept.long ∙ ap (λ (n : ℕ). 49 * n) so.words_are.size ∙ sym c.requires.words_len.1
-
-pub shape_of-masks : goal.shape_of-masks
-shape_of-masks c = c.loop-k.invariant.2 ∙ sym c.requires.words_len.2
 
 pub returns : goal.returns
 unfolding sheet_of
@@ -148,14 +109,14 @@ returns c =
     let l = c.loop-k in
     let p = c.args.part in
     λ t L.
-    let so = l.invariant.4 t L in
+    let so = l.invariant.2 t L in
     let is = ap (λ (u : Used). u.nodes) L.packed.used_is in
-    let end : l.k ≡ t.used.nodes = omega (arith, l.invariant.0, l.invariant.1, is, c.loop-k-test.false) in
+    let end : l.k ≡ t.used.nodes = omega (arith, l.auto.k-end, ap (λ (u : Used). u.nodes) c.used_in-count.ensures, is, c.loop-k-test.false) in
     record {
       row_is = ap (λ (b : List ℕ). record { bits = b }) (filled_end _ l.out l.k so.row_is (λ j h.
           none_after t L.facts j (omega (arith, end)) _ (λ s. inner p.way (sheet_of t) c.args.log.now (bits_of p.row) j s)
           (λ s. row_form p.way (sheet_of t) c.args.log.now (bits_of p.row) j s)));
-      words_are = words_end (sheet_of t) (bits_of p.row) c.args.log.now l.k l.words l.invariant.5 l.invariant.6 so.words_are end;
-      held_is = so.held_is (omega (arith, end, L.facts.some_node)) ∙ held_read c.args.log.now l.words (l.k - 1) l.invariant.5 (omega (arith, end, L.facts.nodes≤))
+      words_are = words_end (sheet_of t) (bits_of p.row) c.args.log.now l.k l.words l.invariant.3 l.invariant.4 so.words_are end;
+      held_is = so.held_is (omega (arith, end, L.facts.some_node)) ∙ held_read c.args.log.now l.words (l.k - 1) l.invariant.3 (omega (arith, end, L.facts.nodes≤))
           ∙ ap (λ (k : ℕ). bit_count (length c.args.log.now) l.words (k - 1)) end;
     }

@@ -1,4 +1,4 @@
-use Rattle.std.specs.Prelude.{◌≡◌, ◌-◌, ◌≤◌, ◌&&◌, length}
+use Rattle.std.specs.Prelude.{◌≡◌, ◌&&◌, length}
 use Rattle.aldlf.specs.Constants.{node_limit, state_limit}
 use Rattle.aldlf.specs.Outcomes.{pack_bits}
 use Rattle.aldlf.specs.Parts.{counts}
@@ -7,12 +7,8 @@ use Rattle.aldlf.specs.Verdict.{plain}
 use Rattle.aldlf.specs.declared.Table.{Table}
 use Rattle.judge.specs.Nodes.{Filled}
 use Rattle.sheet.specs.Facts.{Lent}
-use Rattle.packing.specs.Numbers.{lent_used}
 use Rattle.judge.proofs.rows.end_row.Given as goal
 
 abbrev pub invariant-loop-k : goal.invariant-loop-k
-invariant-loop-k l = (l.k ≤ l.count) × (l.count ≡ (lent_used l.numbers).nodes) × (length l.out ≡ node_limit)
+invariant-loop-k l = (length l.out ≡ node_limit)
     × ((t : Table) → Lent t l.numbers → Filled (λ j. pack_bits state_limit (λ s. counts (sheet_of t) ((sheet_of t).line j) s && plain (sheet_of t) j s)) l.out l.k)
-
-abbrev pub decreases-loop-k : goal.decreases-loop-k
-decreases-loop-k l = l.count - l.k

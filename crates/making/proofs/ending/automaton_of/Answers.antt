@@ -3,13 +3,13 @@ use native.Mathlib.Omega.{arith}
 use Rattle.making.proofs.PathEnds.{room_is, automaton_by}
 use Rattle.making.proofs.ending.automaton_of.Goals as goal
 
-pub power-p-requires : goal.power-p-requires
-power-p-requires c = (room_is c.args.c c.requires).exit
+pub power-requires : goal.power-requires
+power-requires c = (room_is c.args.c c.requires).exit
 
 pub overflow_sub-result : goal.overflow_sub-result
 overflow_sub-result c = let h = (room_is c.args.c c.requires).base in omega arith
 
 pub returns : goal.returns
 returns c =
-    let power = c.power-p in
+    let power = c.power in
     automaton_by c.args.c power.result power.ensures

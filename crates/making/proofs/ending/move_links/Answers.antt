@@ -1,21 +1,16 @@
--- `move_links` meets its contract: after i turns the first i links are stored. The measure is what is left of n. Assumes nothing.
-use Prim.Native.Nat.{ℕ, ◌+◌}
-use mathlib.Core.Path.{◌≡◌, ap, ◌∙◌}
-use mathlib.Core.List.{List}
+-- `move_links` meets its contract: a run of stores is what the slice that is copied over becomes. Assumes nothing.
+use mathlib.Core.Path.{◌≡◌}
+use Prim.Native.Nat.{◌+◌, ◌-◌}
 use native.Mathlib.Omega.{arith}
-use lib.ListN.{take, drop, set, get_or}
-use lib.Seq.{sets}
-use Rattle.making.proofs.Lists.{write_one}
+use lib.ListN.{take, drop, length-drop}
+use lib.Seq.{length-take-le}
+use Rattle.making.proofs.Lists.{put_sets}
 use Rattle.making.proofs.ending.move_links.Goals as goal
-
-pub loop-i-preserved : goal.loop-i-preserved
-loop-i-preserved c =
-    let a = c.args in
-    let loop = c.loop-i in
-    (ap (λ (z : List ℕ). set z (a.first + loop.i) (get_or a.links.now (a.base + loop.i) 0)) loop.invariant.0 ∙ write_one a.edges.now a.first a.base loop.i a.links.now 0 (omega (arith, c.requires)), omega arith)
 
 pub returns : goal.returns
 returns c =
     let a = c.args in
-    let loop = c.loop-i in
-    loop.invariant.0 ∙ ap (λ (k : ℕ). sets a.edges.now a.first (take k (drop a.base a.links.now))) (let z : loop.i ≡ a.n = omega arith in z)
+    let l = length-take-le a.n (drop a.base a.links.now) (omega (arith, length-drop a.base a.links.now)) in
+    let f : a.first + a.n - a.first ≡ a.n = omega arith in
+    let e : a.base + a.n - a.base ≡ a.n = omega arith in
+    rw (f, c.copy_from_slice.ensures.after, e) (put_sets a.edges.now a.first a.n (take a.n (drop a.base a.links.now)) (omega arith) (omega arith))

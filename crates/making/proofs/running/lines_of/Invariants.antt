@@ -1,11 +1,7 @@
-use Prim.Native.Nat.{◌≤◌, ◌-◌}
 use mathlib.Core.Path.{◌≡◌}
 use lib.ListN.{length, take}
 use Rattle.making.specs.Numbers.{lines_in}
 use Rattle.making.proofs.running.lines_of.Given as goal
 
 abbrev pub invariant-loop-i : goal.invariant-loop-i
-invariant-loop-i l = (length l.r ≡ 128) × (l.i ≤ 128) × (take l.i l.r ≡ take l.i (lines_in l.lines))
-
-abbrev pub decreases-loop-i : goal.decreases-loop-i
-decreases-loop-i l = 128 - l.i
+invariant-loop-i l = (length l.r ≡ 128) × (take l.i l.r ≡ take l.i (lines_in l.lines))

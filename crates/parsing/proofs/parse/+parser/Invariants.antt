@@ -25,12 +25,12 @@ decreases-path l = l.depth + l.depth + l.depth
 abbrev pub decreases-piece : goal.decreases-piece
 decreases-piece l = l.depth + l.depth + l.depth + 1
 
-abbrev pub invariant-formula-loop-by : goal.invariant-formula-loop-by
-invariant-formula-loop-by l =
+abbrev pub invariant-formula-loop-p : goal.invariant-formula-loop-p
+invariant-formula-loop-p l =
     (1 ≤ l.depth) × InFormula l.text (l.depth - 1) ((inner l.text l.depth).formula l.start) (work_of l.fn.w0 l.initial.out) l.at (work_of l.w l.out) l.h.second l.h.first
 
-abbrev pub decreases-formula-loop-by : goal.decreases-formula-loop-by
-decreases-formula-loop-by l = length l.text - l.at
+abbrev pub decreases-formula-loop-p : goal.decreases-formula-loop-p
+decreases-formula-loop-p l = length l.text - l.at
 
 abbrev pub invariant-operand-loop-out : goal.invariant-operand-loop-out
 invariant-operand-loop-out l =
@@ -39,9 +39,9 @@ invariant-operand-loop-out l =
 abbrev pub decreases-operand-loop-out : goal.decreases-operand-loop-out
 decreases-operand-loop-out l = length l.text - l.at
 
-abbrev pub invariant-path-loop-by : goal.invariant-path-loop-by
-invariant-path-loop-by l =
+abbrev pub invariant-path-loop-p : goal.invariant-path-loop-p
+invariant-path-loop-p l =
     (1 ≤ l.depth) × InPath l.text (l.depth - 1) ((inner l.text l.depth).path l.start) (work_of l.fn.w0 l.initial.out) l.at (work_of l.w l.out) l.h.second l.h.first
 
-abbrev pub decreases-path-loop-by : goal.decreases-path-loop-by
-decreases-path-loop-by l = length l.text - l.at
+abbrev pub decreases-path-loop-p : goal.decreases-path-loop-p
+decreases-path-loop-p l = length l.text - l.at

@@ -1,11 +1,8 @@
 -- `byte_at` meets its contract. Assumes nothing.
-use mathlib.Core.Path.{sym, ◌∙◌}
+use mathlib.Core.Path.{◌∙◌}
 use native.Mathlib.Omega.{arith}
-use Rattle.formula.proofs.Bytes.{byte_in, byte_out}
+use Rattle.parsing.proofs.Laws.{byte_or}
 use Rattle.parsing.proofs.signs.byte_at.Goals as goal
 
-pub returns-then-at-text : goal.returns-then-at-text
-returns-then-at-text c = c.wide.ensures ∙ sym (byte_in _ _ (omega arith))
-
 pub returns : goal.returns
-returns c = sym (byte_out _ _ (omega arith))
+returns c = rw c.copied.ensures (c.get.ensures.lookup.4 (omega arith) 256 ∙ byte_or c.args.text.now c.args.at)

@@ -40,10 +40,10 @@ overflow_sub-rule c =
     let L = lent (goal.at.overflow_sub-rule c).Else-not-is_given_packed t P in
     omega (arith, ap (λ (u : Used). u.nodes) c.used_in.ensures, nodes_lent t c.args.numbers.now L, L.facts.some_node)
 
-pub put_node-bytes-requires : goal.put_node-bytes-requires
-put_node-bytes-requires c =
+pub put_node-requires : goal.put_node-requires
+put_node-requires c =
     let (t, P) = c.requires in
-    let L = lent (goal.at.put_node-bytes-requires c).Else-not-is_given_packed t P in
+    let L = lent (goal.at.put_node-requires c).Else-not-is_given_packed t P in
     record { lent = (t, L); node_bound = omega (arith, ap (λ (u : Used). u.nodes) c.used_in.ensures, nodes_lent t c.args.numbers.now L, L.facts.some_node) }
 
 pub returns : goal.returns
@@ -51,4 +51,4 @@ returns c =
     λ t P.
     let L = lent (goal.at.returns c).Else-not-is_given_packed t P in
     let n = ap (λ (u : Used). u.nodes) c.used_in.ensures ∙ nodes_lent t c.args.numbers.now L in
-    print_whole (well_formed t) (sheet_of t) c.args.out.now _ _ (given (goal.at.returns c).Else-not-is_given_packed t P) (yes_is (c.rule_fits.ensures t L) (ap not c.if-not-rule_fits.false)) (rule_at t _ n (c.put_node-bytes.ensures t L))
+    print_whole (well_formed t) (sheet_of t) c.args.out.now _ _ (given (goal.at.returns c).Else-not-is_given_packed t P) (yes_is (c.rule_fits.ensures t L) (ap not c.if-not-rule_fits.false)) (rule_at t _ n (c.put_node.ensures t L))

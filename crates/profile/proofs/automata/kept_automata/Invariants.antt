@@ -1,5 +1,3 @@
-use Prim.Native.Nat.{◌-◌, ◌≤◌}
-use Rattle.aldlf.specs.Constants.{automaton_limit}
 use Rattle.aldlf.specs.Sheet.{no_automaton}
 use Rattle.aldlf.specs.declared.Table.{Table}
 use Rattle.profile.specs.Profile.{kept_automaton}
@@ -8,7 +6,4 @@ use Rattle.profile.proofs.Laws.{Placed}
 use Rattle.profile.proofs.automata.kept_automata.Given as goal
 
 abbrev pub invariant-loop-m : goal.invariant-loop-m
-invariant-loop-m l = (l.m ≤ automaton_limit) × ((t : Table) → ProfileRoom t l.numbers → Placed kept_automaton no_automaton t.automata l.out l.m)
-
-abbrev pub decreases-loop-m : goal.decreases-loop-m
-decreases-loop-m l = automaton_limit - l.m
+invariant-loop-m l = (t : Table) → ProfileRoom t l.numbers → Placed kept_automaton no_automaton t.automata l.x-items l.m

@@ -1,5 +1,3 @@
-use Prim.Native.Nat.{◌-◌, ◌≤◌}
-use Rattle.aldlf.specs.Constants.{edge_limit}
 use Rattle.aldlf.specs.Sheet.{no_edge}
 use Rattle.aldlf.specs.declared.Table.{Table}
 use Rattle.profile.specs.Profile.{kept_edge}
@@ -8,7 +6,4 @@ use Rattle.profile.proofs.Laws.{Placed}
 use Rattle.profile.proofs.automata.kept_edges.Given as goal
 
 abbrev pub invariant-loop-e : goal.invariant-loop-e
-invariant-loop-e l = (l.e ≤ edge_limit) × ((t : Table) → ProfileRoom t l.numbers → Placed kept_edge no_edge t.edges l.out l.e)
-
-abbrev pub decreases-loop-e : goal.decreases-loop-e
-decreases-loop-e l = edge_limit - l.e
+invariant-loop-e l = (t : Table) → ProfileRoom t l.numbers → Placed kept_edge no_edge t.edges l.x-items l.e

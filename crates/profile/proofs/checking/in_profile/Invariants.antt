@@ -1,4 +1,3 @@
-use Prim.Native.Nat.{◌-◌, ◌≤◌}
 use mathlib.Core.Path.{◌≡◌}
 use mathlib.Core.Bool.{true}
 use Rattle.aldlf.specs.declared.Table.{Table}
@@ -9,7 +8,4 @@ use Rattle.profile.specs.Profile.{line_in_profile}
 use Rattle.profile.proofs.checking.in_profile.Given as goal
 
 abbrev pub invariant-loop-k : goal.invariant-loop-k
-invariant-loop-k l = (l.k ≤ l.n) × ((t : Table) → Packed t l.numbers → l.n ≡ t.used.nodes) × ((t : Table) → Packed t l.numbers → well_formed t ≡ true → each (line_in_profile t.nodes) l.k ≡ true)
-
-abbrev pub decreases-loop-k : goal.decreases-loop-k
-decreases-loop-k l = l.n - l.k
+invariant-loop-k l = (t : Table) → Packed t l.numbers → well_formed t ≡ true → each (line_in_profile t.nodes) l.k ≡ true

@@ -4,7 +4,8 @@ use native.Mathlib.Omega.{arith}
 use mathlib.Core.Path.{◌≡◌, sym, ap, ◌∙◌}
 use mathlib.Core.Bool.{true}
 use lib.Dec.{eqb}
-use Rattle.aldlf.specs.Constants.{letter_p}
+use borrow.Author.Tests.{ne_eqb}
+use Rattle.aldlf.specs.Constants.{letter_p, letter_n}
 use Rattle.aldlf.specs.declared.NodeLine.{NodeLine}
 use Rattle.aldlf.specs.declared.Table.{Table}
 use Rattle.packing.specs.Numbers.{lent_line}
@@ -25,19 +26,19 @@ line_at-x-requires c = let (t, P, w, l) = c.requires in (P.size, (names_small t 
 pub returns-then-x-ne78 : goal.returns-then-x-ne78
 returns-then-x-ne78 c = λ t P w l.
     let k = c.args.k.0 in
-    in_other t.nodes k (λ e. c.if-x-ne78.true (ap (λ (x : NodeLine). x.kind) (line_is (goal.at.returns-then-x-ne78 c).After-line_at-x t P w l) ∙ e))
+    rw (ne_eqb c.line_at-x.result.kind letter_n c.if-x-ne78.true) (in_other t.nodes k (λ e. c.if-x-ne78.true (ap (λ (x : NodeLine). x.kind) (line_is (goal.at.returns-then-x-ne78 c).After-line_at-x t P w l) ∙ e)))
 
-pub line_at-y-requires : goal.line_at-y-requires
-line_at-y-requires c =
+pub line_at-requires : goal.line_at-requires
+line_at-requires c =
     let (t, P, w, l) = c.requires in
-    let e = line_is (goal.at.line_at-y-requires c).After-line_at-x t P w l in
+    let e = line_is (goal.at.line_at-requires c).After-line_at-x t P w l in
     (P.size, omega (arith, ap (λ (x : NodeLine). x.a) e, (names_small t w c.args.k.0 l).1 (sym (ap (λ (x : NodeLine). x.kind) e) ∙ c.if-x-ne78.false)))
 
-pub returns : goal.returns
-returns c = λ t P w l.
+pub returns-else-x-ne78 : goal.returns-else-x-ne78
+returns-else-x-ne78 c = λ t P w l.
     let k = c.args.k.0 in
-    let e = line_is (goal.at.returns c).After-line_at-x t P w l in
+    let e = line_is (goal.at.returns-else-x-ne78 c).After-line_at-x t P w l in
     let n = sym (ap (λ (x : NodeLine). x.kind) e) ∙ c.if-x-ne78.false in
     ap (λ (x : NodeLine). eqb x.kind letter_p)
-    (c.line_at-y.ensures ∙ ap (λ (x : NodeLine). lent_line c.args.numbers.now x.a) e ∙ P.line_is (node_at t k).a ((names_small t w k l).1 n))
+    (c.line_at.ensures ∙ ap (λ (x : NodeLine). lent_line c.args.numbers.now x.a) e ∙ P.line_is (node_at t k).a ((names_small t w k l).1 n))
     ∙ in_stands t.nodes k n

@@ -24,23 +24,23 @@ overflow_add-result-in-68 c = omega (arith, c.requires.1.modal< c.in-68.is)
 pub returns-in-80 : goal.returns-in-80
 returns-in-80 c =
     let a = c.args in
-    let d = c.exchanged_letter-d in
+    let d = c.exchanged_letter-kind in
     opposite_fact a.k.0 a.x d.result d.ensures c.in-80.is
 
 pub returns-in-65 : goal.returns-in-65
 returns-in-65 c =
     let a = c.args in
-    let d = c.exchanged_letter-d in
+    let d = c.exchanged_letter-kind in
     opposite_two a.k.0 a.x d.result d.ensures c.in-65.is
 
 pub returns-in-68 : goal.returns-in-68
 returns-in-68 c =
     let a = c.args in
-    let d = c.exchanged_letter-d in
+    let d = c.exchanged_letter-kind in
     opposite_modal a.k.0 a.x d.result d.ensures c.in-68.is
 
 pub returns-in_default : goal.returns-in_default
 returns-in_default c =
     let a = c.args in
-    let d = c.exchanged_letter-d in
+    let d = c.exchanged_letter-kind in
     opposite_other a.k.0 a.x d.result d.ensures c.in_default.in_default-own.rest.0.0.1 c.in_default.in_default-own.rest.0.1 c.in_default.in_default-own.rest.1

@@ -10,22 +10,16 @@ use Rattle.sheet.proofs.Facts.{table_facts}
 use Rattle.profile.specs.Room.{ProfileRoom}
 use Rattle.profile.proofs.Laws.{last_put}
 use Rattle.profile.proofs.lines.profile_lines.Goals as goal
-use Rattle.profile.proofs.lines.profile_lines.Goals.{After-struct_known-1}
+use Rattle.profile.proofs.lines.profile_lines.Goals.{After-used_in-n}
 
 -- so many old lines
-count : (c : After-struct_known-1) → (t : Table) → ProfileRoom t c.args.numbers.now → c.used_in-n.result.nodes ≡ t.used.nodes
+count : (c : After-used_in-n) → (t : Table) → ProfileRoom t c.args.numbers.now → c.used_in-n.result.nodes ≡ t.used.nodes
 count c t R = ap (λ (u : Used). u.nodes) (c.used_in-n.ensures ∙ R.packed.used_is)
 
-pub overflow_sub-x : goal.overflow_sub-x
-overflow_sub-x c = let R = c.requires in omega (arith, count (goal.at.overflow_sub-x c).After-struct_known-1 R.0 R.1, (table_facts R.0 R.1.given).some_node)
-
-pub bounds-out-n : goal.bounds-out-n
-bounds-out-n c = let R = c.requires in omega (arith, count (goal.at.bounds-out-n c).After-struct_known-1 R.0 R.1, R.1.room)
-
-pub bounds-out-n-2 : goal.bounds-out-n-2
-bounds-out-n-2 c = let R = c.requires in omega (arith, count (goal.at.bounds-out-n-2 c).After-struct_known-1 R.0 R.1, R.1.room)
+pub overflow_sub-out : goal.overflow_sub-out
+overflow_sub-out c = let R = c.requires in omega (arith, count (goal.at.overflow_sub-out c).After-used_in-n R.0 R.1, (table_facts R.0 R.1.given).some_node)
 
 pub returns : goal.returns
 returns c = λ t R.
     let o = c.doubled_lines-out in
-    ap (λ (n : ℕ). set o.result (2 * n) (get_or o.result (2 * (n - 1)) no_line)) (count (goal.at.returns c).After-struct_known-1 t R) ∙ last_put t.nodes t.used.nodes o.result (o.ensures t R)
+    ap (λ (n : ℕ). set o.result (2 * n) (get_or o.result (2 * (n - 1)) no_line)) (count (goal.at.returns c).After-used_in-n t R) ∙ last_put t.nodes t.used.nodes o.result (o.ensures t R)

@@ -1,13 +1,9 @@
--- `within` meets its contract: the states that stay are added where they are asked for. Assumes nothing.
-use Rattle.reach.proofs.Pulled.{beside_off, beside_on}
+-- `within` meets its contract where the states that stay are not asked for: none is added. Assumes nothing.
+use Rattle.reach.proofs.Pulled.{beside_off}
 use lib.Bits.{or_zero_r}
-use mathlib.Core.Path.{refl, sym, ◌∙◌}
+use mathlib.Core.Path.{sym, ◌∙◌}
 use Rattle.reach.proofs.closing.within.Goals as goal
 
-pub returns-then-not-asked : goal.returns-then-not-asked
-returns-then-not-asked c = let a = c.args in
-    record { within = 0; beside = beside_off _ a.steps.now a.place a.grown (sym c.asked.ensures ∙ c.if-not-asked.true); result = sym (or_zero_r a.grown) }
-
-pub returns : goal.returns
-returns c = let a = c.args in
-    record { within = c.pull.result; beside = beside_on _ a.steps.now a.place a.grown _ (sym c.asked.ensures ∙ c.if-not-asked.false) c.pull.ensures; result = refl }
+pub returns-else-asked : goal.returns-else-asked
+returns-else-asked c = let a = c.args in
+    record { within = 0; beside = beside_off _ a.steps.now a.place a.grown (sym c.asked.ensures ∙ c.if-asked.false); result = sym (or_zero_r a.grown) }

@@ -1,4 +1,4 @@
-use Prim.Native.Nat.{◌-◌, ◌≤◌}
+-- fill: the columns of the entries passed.
 use Rattle.reach.specs.Columns.{Filling}
 use Rattle.reach.specs.Marks.{paired}
 use lib.ListN.{length}
@@ -6,7 +6,4 @@ use mathlib.Core.Path.{◌≡◌}
 use Rattle.reach.proofs.filling.fill.Given as goal
 
 abbrev pub invariant-loop-i : goal.invariant-loop-i
-invariant-loop-i l = (l.i ≤ length (paired l.words)) × (length l.seen ≡ 251) × Filling l.edges (paired l.words) (length (paired l.words)) l.i l.steps
-
-abbrev pub decreases-loop-i : goal.decreases-loop-i
-decreases-loop-i l = length (paired l.words) - l.i
+invariant-loop-i l = (length l.seen ≡ 251) × Filling l.edges (paired l.words) (length (paired l.words)) l.i l.steps

@@ -1,12 +1,15 @@
 -- `place_entry` meets its contract: the place of an entry that is like this one, or columns of its own. Assumes nothing.
 use Prim.Native.Nat.{◌+◌, ◌*◌, ◌/◌}
-use Rattle.reach.proofs.Paired.{length-paired}
+use Rattle.reach.proofs.Paired.{length-paired, pair_room}
 use Rattle.reach.proofs.Shared.{filling_like, filling_own}
 use Rattle.reach.specs.Marks.{paired}
 use lib.ListN.{length, length-set}
 use mathlib.Core.Path.{◌∙◌}
 use native.Mathlib.Omega.{arith}
 use Rattle.reach.proofs.filling.place_entry.Goals as goal
+
+pub alike-requires : goal.alike-requires
+alike-requires c = pair_room c.args.words.now c.args.pair.entry c.requires.words_len_bound.1
 
 pub offset_bounds-steps-j : goal.offset_bounds-steps-j
 offset_bounds-steps-j c = omega (arith, (c.alike.ensures c.if-alike.true).0, c.requires.words_len_bound)

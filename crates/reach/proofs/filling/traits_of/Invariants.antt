@@ -1,11 +1,7 @@
-use Prim.Native.Nat.{◌-◌, ◌≤◌}
+-- traits_of: the edges passed.
 use Rattle.reach.specs.Columns.{Told}
 use Rattle.reach.specs.Tests.{Tested}
-use lib.ListN.{length}
 use Rattle.reach.proofs.filling.traits_of.Given as goal
 
-abbrev pub invariant-loop-e : goal.invariant-loop-e
-invariant-loop-e l = (l.e ≤ length l.edges) × Told l.edges l.looks l.e × Tested l.edges l.tested l.e
-
-abbrev pub decreases-loop-e : goal.decreases-loop-e
-decreases-loop-e l = length l.edges - l.e
+abbrev pub invariant-loop-p : goal.invariant-loop-p
+invariant-loop-p l = Told l.fn.edges l.looks l.p-index × Tested l.fn.edges l.tested l.p-index

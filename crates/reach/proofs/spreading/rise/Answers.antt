@@ -1,30 +1,31 @@
 -- `rise` meets its contract: one turn more, with nothing due at the entries before the cursor. Assumes nothing.
-use Prim.Native.Nat.{ℕ}
 use Rattle.reach.proofs.Turns.{clear_next, fewer, rise_end, rise_start}
 use lib.ListN.{replicate, get_or-replicate}
-use mathlib.Core.Path.{refl, sym, subst, ◌∙◌}
+use mathlib.Core.Path.{refl, ◌∙◌}
 use native.Mathlib.Omega.{arith}
-use Rattle.reach.specs.Columns.{Placed}
 use Rattle.reach.proofs.spreading.rise.Goals as goal
 
 pub loop-j-init : goal.loop-j-init
 loop-j-init c =
     (refl, refl, λ i l. omega (arith, c.type_inv.masks i), λ k l. absurd (omega arith), rise_start c.args.exits c.args.looks c.args.steps.now c.args.masks.now (replicate 512 4) (λ i l. get_or-replicate 512 i 4 0 (omega (arith, c.requires.masks_len_bound))))
 
-pub slice_bounds-turn-end : goal.slice_bounds-turn-end
-slice_bounds-turn-end c = sym c.loop-j.invariant.1
-
-pub turn-again-requires : goal.turn-again-requires
-turn-again-requires c =
-    let l = c.loop-j in
-    record { placed = subst (λ (n : ℕ). Placed n c.args.steps.now) (sym l.invariant.0) c.requires.placed; v_in_bounds = (omega (arith, l.invariant.0, c.loop-j-test.true), omega (arith, l.invariant.0, l.invariant.1, c.requires.masks_len_bound)) }
-
-pub loop-j-smaller : goal.loop-j-smaller
-loop-j-smaller c =
+pub loop-j-smaller-then-again : goal.loop-j-smaller-then-again
+loop-j-smaller-then-again c =
     let l = c.loop-j in
     let t = c.turn-again in
-    fewer c.args.exits c.args.looks c.args.steps.now l.masks l.todo _ _ l.j c.next_entry-j.result t.result t.ensures c.next_entry-j.ensures
+    fewer c.args.exits c.args.looks c.args.steps.now l.masks l.todo _ _ l.j _ t.result t.ensures (rw c.if-again.true c.saturating_sub-j.ensures)
     (omega (arith, l.invariant.0, c.loop-j-test.true)) (t.ensures.fits l.invariant.2)
+
+pub loop-j-preserved-then-again : goal.loop-j-preserved-then-again
+loop-j-preserved-then-again c =
+    let l = c.loop-j in
+    let t = c.turn-again in (
+      t.ensures.same ∙ l.invariant.0,
+      t.ensures.room ∙ l.invariant.1,
+      λ i h. t.ensures.fits l.invariant.2 i (omega (arith, t.ensures.same)),
+      clear_next c.args.exits c.args.looks c.args.steps.now l.masks l.todo _ _ l.j _ t.result t.ensures (rw c.if-again.true c.saturating_sub-j.ensures) l.invariant.3,
+      λ E words seeds f told F K. t.ensures.moves E words seeds f told F (l.invariant.4 E words seeds f told F K),
+    )
 
 pub loop-j-preserved : goal.loop-j-preserved
 loop-j-preserved c =
@@ -33,17 +34,12 @@ loop-j-preserved c =
       t.ensures.same ∙ l.invariant.0,
       t.ensures.room ∙ l.invariant.1,
       λ i h. t.ensures.fits l.invariant.2 i (omega (arith, t.ensures.same)),
-      clear_next c.args.exits c.args.looks c.args.steps.now l.masks l.todo _ _ l.j c.next_entry-j.result t.result t.ensures c.next_entry-j.ensures l.invariant.3,
+      clear_next c.args.exits c.args.looks c.args.steps.now l.masks l.todo _ _ l.j _ t.result t.ensures (rw c.if-again.false refl) l.invariant.3,
       λ E words seeds f told F K. t.ensures.moves E words seeds f told F (l.invariant.4 E words seeds f told F K),
     )
 
-pub shape_of-masks : goal.shape_of-masks
-shape_of-masks c = c.loop-j.invariant.0
-
-pub returns : goal.returns
-returns c =
-    let l = c.loop-j in record {
-      masks_len_unchanged = l.invariant.0;
-      moves = λ E words seeds f told F K. rise_end c.args.exits c.args.looks c.args.steps.now l.masks l.todo l.j (omega (arith, l.invariant.0, c.loop-j-test.false)) l.invariant.3
-          E words seeds f told F (l.invariant.4 E words seeds f told F K);
-    }
+pub returns-clause-moves : goal.returns-clause-moves
+returns-clause-moves c =
+    let l = c.loop-j in
+    λ E words seeds f told F K. rise_end c.args.exits c.args.looks c.args.steps.now l.masks l.todo l.j (omega (arith, l.invariant.0, c.loop-j-test.false)) l.invariant.3
+    E words seeds f told F (l.invariant.4 E words seeds f told F K)

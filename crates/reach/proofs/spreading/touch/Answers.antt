@@ -5,6 +5,7 @@ use mathlib.Core.Bool.{Bool, true≢false}
 use mathlib.Core.Path.{refl, sym, subst, ◌∙◌}
 use native.Mathlib.Omega.{arith}
 use Rattle.reach.proofs.spreading.touch.Goals as goal
+use Rattle.reach.proofs.spreading.touch.Goals.{else-ahead-via-then-ahead+else-i-gt0, else-ahead-via-else-ahead}
 
 pub returns-then-i-gt0 : goal.returns-then-i-gt0
 returns-then-i-gt0 c =
@@ -12,9 +13,9 @@ returns-then-i-gt0 c =
     subst (λ (b : Bool). Touched b c.args.i T c.raise-then-i-gt0.new.todo) (sym c.if-ahead.true)
     (touched_both c.args.i T _ _ c.if-i-gt0.true c.requires (c.raise.ensures 2 (omega arith) refl) (c.raise-then-i-gt0.ensures 1 (omega arith) refl))
 
-pub returns-else-i-gt0 : goal.returns-else-i-gt0
-returns-else-i-gt0 c = touched_after c.args.ahead c.args.i c.args.todo.now _ (λ _. omega (arith, c.if-i-gt0.false)) (c.raise.ensures 2 (omega arith) refl)
-
 pub returns-else-ahead : goal.returns-else-ahead
 returns-else-ahead c =
-    touched_after c.args.ahead c.args.i c.args.todo.now _ (λ on. absurd (true≢false (sym on ∙ c.if-ahead.false))) (c.raise.ensures 2 (omega arith) refl)
+    touched_after c.args.ahead c.args.i c.args.todo.now _ (elim c.else-ahead.branch [
+      | else-ahead-via-then-ahead+else-i-gt0 w ↦ λ _. omega (arith, w.if-i-gt0.false)
+      | else-ahead-via-else-ahead w ↦ λ on. absurd (true≢false (sym on ∙ w.if-ahead.false))
+    ]) (c.raise.ensures 2 (omega arith) refl)

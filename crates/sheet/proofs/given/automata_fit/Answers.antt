@@ -15,17 +15,14 @@ use mathlib.Core.Bool.{not}
 use Rattle.sheet.proofs.given.automata_fit.Goals as goal
 
 pub loop-m-init : goal.loop-m-init
-loop-m-init c = (omega arith, λ t P e. (refl, refl, each_none (automaton_ok t)))
-
-pub automaton_at-x-requires : goal.automaton_at-x-requires
-automaton_at-x-requires c = let f = subst CountsFit (sym c.used_in-used.ensures) c.requires.1 in (c.requires.0, omega (arith, f.automata≤))
+loop-m-init c = λ t P e. (refl, refl, each_none (automaton_ok t))
 
 pub returns-then-not-head_fits : goal.returns-then-not-head_fits
 returns-then-not-head_fits c = λ t P e.
     let l = c.loop-m in
     let u = c.used_in-used in
     let f = subst CountsFit (sym u.ensures) c.requires.1 in
-    let k = l.invariant.1 t P e in
+    let k = l.invariant t P e in
     let no = head_no P u.ensures l.m l.first l.above (omega (arith, f.automata≤)) c.automaton_at-x.ensures k.0 k.1 (no_is c.head_fits.ensures (ap not c.if-not-head_fits.true)) in
     automata_by P u.ensures (each_no (automaton_ok t) l.m u.result.automata (omega arith) no)
 
@@ -39,7 +36,7 @@ returns-then-not-edges_fit c = λ t P e.
     let l = c.loop-m in
     let u = c.used_in-used in
     let f = subst CountsFit (sym u.ensures) c.requires.1 in
-    let k = l.invariant.1 t P e in
+    let k = l.invariant t P e in
     let plain = c.plains_in-p.ensures t P e in
     let no = edges_say P u.ensures l.m l.first l.above (omega (arith, f.automata≤)) c.automaton_at-x.ensures k.0 k.1 _ false plain (yes_is c.head_fits.ensures (ap not c.if-not-head_fits.false)) (no_is (c.edges_fit.ensures t P) (ap not c.if-not-edges_fit.true)) in
     automata_by P u.ensures (each_no (automaton_ok t) l.m u.result.automata (omega arith) no)
@@ -50,23 +47,20 @@ overflow_add-first c = let l = c.loop-m in
     omega (arith, head_end c.used_in-used.result l.first l.above c.automaton_at-x.result (yes_is c.head_fits.ensures (ap not c.if-not-head_fits.false)), f.edges≤)
 
 pub loop-m-preserved : goal.loop-m-preserved
-loop-m-preserved c = (
-  omega arith,
-  λ t P e.
-      let l = c.loop-m in
-      let u = c.used_in-used in
-      let f = subst CountsFit (sym u.ensures) c.requires.1 in
-      let k = l.invariant.1 t P e in
-      let x = c.automaton_at-x in
-      let low : l.m < 16 = omega (arith, f.automata≤) in
-      let plain = c.plains_in-p.ensures t P e in
-      let yes = edges_say P u.ensures l.m l.first l.above low x.ensures k.0 k.1 _ true plain (yes_is c.head_fits.ensures (ap not c.if-not-head_fits.false)) (yes_is (c.edges_fit.ensures t P) (ap not c.if-not-edges_fit.false)) in
-      (edges_passed P l.m low x.ensures, nodes_passed P l.m low x.ensures, each_on (automaton_ok t) l.m k.2 yes),
-)
+loop-m-preserved c = λ t P e.
+    let l = c.loop-m in
+    let u = c.used_in-used in
+    let f = subst CountsFit (sym u.ensures) c.requires.1 in
+    let k = l.invariant t P e in
+    let x = c.automaton_at-x in
+    let low : l.m < 16 = omega (arith, f.automata≤) in
+    let plain = c.plains_in-p.ensures t P e in
+    let yes = edges_say P u.ensures l.m l.first l.above low x.ensures k.0 k.1 _ true plain (yes_is c.head_fits.ensures (ap not c.if-not-head_fits.false)) (yes_is (c.edges_fit.ensures t P) (ap not c.if-not-edges_fit.false)) in
+    (edges_passed P l.m low x.ensures, nodes_passed P l.m low x.ensures, each_on (automaton_ok t) l.m k.2 yes)
 
 pub returns : goal.returns
 returns c = λ t P e.
     let l = c.loop-m in
     let u = c.used_in-used in
     let q : l.m ≡ u.result.automata = omega arith in
-    automata_by P u.ensures (sym (l.invariant.1 t P e).2 ∙ ap (each (automaton_ok t)) q)
+    automata_by P u.ensures (sym (l.invariant t P e).2 ∙ ap (each (automaton_ok t)) q)

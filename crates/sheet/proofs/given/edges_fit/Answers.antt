@@ -12,31 +12,22 @@ use mathlib.Core.Bool.{not}
 use Rattle.sheet.proofs.given.edges_fit.Goals as goal
 
 pub loop-j-init : goal.loop-j-init
-loop-j-init c = let a = c.args in (omega arith, λ t P. each_none (λ k. edge_fits a.p.now a.x (get_or t.edges (a.x.first + k) no_edge)))
-
-pub overflow_add-x : goal.overflow_add-x
-overflow_add-x c = omega (arith, c.requires.1)
-
-pub edge_at-e-requires : goal.edge_at-e-requires
-edge_at-e-requires c = (c.requires.0, omega (arith, c.requires.1))
+loop-j-init c = let a = c.args in λ t P. each_none (λ k. edge_fits a.p.now a.x (get_or t.edges (a.x.first + k) no_edge))
 
 pub returns-then-not-edge_fits : goal.returns-then-not-edge_fits
 unfolding edges_fit
 returns-then-not-edge_fits c = λ t P.
     let a = c.args in
     let l = c.loop-j in
-    let e = c.edge_at-e.ensures ∙ P.edge_is (a.x.first + l.j) (omega (arith, c.requires.1)) in
+    let e = c.edge_at.ensures ∙ P.edge_is (a.x.first + l.j) (omega (arith, c.requires.1)) in
     each_no (λ k. edge_fits a.p.now a.x (get_or t.edges (a.x.first + k) no_edge)) l.j a.x.count (omega arith) (no_is (c.edge_fits.ensures ∙ ap (edge_fits a.p.now a.x) e) (ap not c.if-not-edge_fits.true))
 
 pub loop-j-preserved : goal.loop-j-preserved
-loop-j-preserved c = (
-  omega arith,
-  λ t P.
-      let a = c.args in
-      let l = c.loop-j in
-      let e = c.edge_at-e.ensures ∙ P.edge_is (a.x.first + l.j) (omega (arith, c.requires.1)) in
-      each_on (λ k. edge_fits a.p.now a.x (get_or t.edges (a.x.first + k) no_edge)) l.j (l.invariant.1 t P) (yes_is (c.edge_fits.ensures ∙ ap (edge_fits a.p.now a.x) e) (ap not c.if-not-edge_fits.false)),
-)
+loop-j-preserved c = λ t P.
+    let a = c.args in
+    let l = c.loop-j in
+    let e = c.edge_at.ensures ∙ P.edge_is (a.x.first + l.j) (omega (arith, c.requires.1)) in
+    each_on (λ k. edge_fits a.p.now a.x (get_or t.edges (a.x.first + k) no_edge)) l.j (l.invariant t P) (yes_is (c.edge_fits.ensures ∙ ap (edge_fits a.p.now a.x) e) (ap not c.if-not-edge_fits.false))
 
 pub returns : goal.returns
 unfolding edges_fit
@@ -44,4 +35,4 @@ returns c = λ t P.
     let a = c.args in
     let l = c.loop-j in
     let e : l.j ≡ a.x.count = omega arith in
-    sym (l.invariant.1 t P) ∙ ap (each (λ k. edge_fits a.p.now a.x (get_or t.edges (a.x.first + k) no_edge))) e
+    sym (l.invariant t P) ∙ ap (each (λ k. edge_fits a.p.now a.x (get_or t.edges (a.x.first + k) no_edge))) e

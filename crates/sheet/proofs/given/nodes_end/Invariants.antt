@@ -1,4 +1,4 @@
-use Prim.Native.Nat.{◌-◌, ◌≤◌, ◌<◌}
+use Prim.Native.Nat.{◌<◌}
 use Rattle.aldlf.specs.Constants.{node_limit}
 use Rattle.aldlf.specs.Sheet.{no_line}
 use Rattle.aldlf.specs.declared.Table.{Table}
@@ -12,7 +12,4 @@ use mathlib.Core.Path.{◌≡◌}
 use Rattle.sheet.proofs.given.nodes_end.Given as goal
 
 abbrev pub invariant-loop-i : goal.invariant-loop-i
-invariant-loop-i l = (l.n ≤ l.i) × (node_limit < l.i → l.all ≡ true) × ((t : Table) → Packed t l.numbers → l.all ≡ each (from_on (λ k. is_no_line (get_or t.nodes k no_line)) l.n) l.i)
-
-abbrev pub decreases-loop-i : goal.decreases-loop-i
-decreases-loop-i l = node_limit - l.i
+invariant-loop-i l = (node_limit < l.i → l.all ≡ true) × ((t : Table) → Packed t l.numbers → l.all ≡ each (from_on (λ k. is_no_line (get_or t.nodes k no_line)) l.n) l.i)

@@ -10,29 +10,19 @@ use lib.Seq.{get_or-set_other}
 use Rattle.sheet.proofs.given.plains_in.Goals as goal
 
 pub loop-k-init : goal.loop-k-init
-loop-k-init c = (omega arith, refl, λ i h l. get_or-replicate node_limit i false false l, λ t P. refl)
-
-pub line_at-x-requires : goal.line_at-x-requires
-line_at-x-requires c = let f = subst CountsFit (sym c.used_in-used.ensures) c.requires.1 in (c.requires.0, omega (arith, f.nodes≤))
-
-pub bounds-p-k : goal.bounds-p-k
-bounds-p-k c =
-    let l = c.loop-k in
-    let f = subst CountsFit (sym c.used_in-used.ensures) c.requires.1 in
-    omega (arith, f.nodes≤, l.invariant.1)
+loop-k-init c = (refl, λ i h l. get_or-replicate node_limit i false false l, λ t P. refl)
 
 pub loop-k-preserved : goal.loop-k-preserved
 loop-k-preserved c =
     let l = c.loop-k in
     let f = subst CountsFit (sym c.used_in-used.ensures) c.requires.1 in (
-      omega arith,
-      length-set l.p l.k _ ∙ l.invariant.1,
-      λ i h w. get_or-set_other l.p l.k i _ false (omega arith) ∙ l.invariant.2 i (omega arith) w,
-      λ t P. flags_next P l.p l.k _ _ (omega (arith, f.nodes≤)) c.line_at-x.ensures c.plain_node-f.ensures (l.invariant.3 t P),
+      length-set l.p l.k _ ∙ l.invariant.0,
+      λ i h w. get_or-set_other l.p l.k i _ false (omega arith) ∙ l.invariant.1 i (omega arith) w,
+      λ t P. flags_next P l.p l.k _ _ (omega (arith, f.nodes≤)) c.line_at.ensures c.plain_node.ensures (l.invariant.2 t P),
     )
 
 pub returns : goal.returns
 returns c = λ t P e.
     let l = c.loop-k in
     let f = subst CountsFit (sym c.used_in-used.ensures) c.requires.1 in
-    flags_all P c.used_in-used.ensures l.p l.k (omega arith) (omega (arith, f.nodes≤)) l.invariant.2 (l.invariant.3 t P) e
+    flags_all P c.used_in-used.ensures l.p l.k (omega arith) (omega (arith, f.nodes≤)) l.invariant.1 (l.invariant.2 t P) e

@@ -1,7 +1,5 @@
 -- `field_after` meets its contract: a cut of what stands after the comma. Assumes nothing.
 use Rattle.sheet.proofs.Parse.{after_none, field_some}
-use Rattle.sheet.proofs.Parse.{after_none}
-use Rattle.sheet.proofs.Parse.{after_none}
 use Rattle.sheet.proofs.line.field_after.Goals as goal
 
 pub returns-then-s-at : goal.returns-then-s-at
@@ -13,4 +11,4 @@ pub returns : goal.returns
 returns c =
     let s = c.args.s.now in
     let at = c.args.at in
-    field_some s at c.cut_field-cut.result c.rest_from-rest.result.now c.if-s-at.false c.rest_from-rest.ensures c.cut_field-cut.ensures
+    rw c.unwrap_or.ensures (field_some s at c.cut_field-cut.result c.rest_from-rest.result.now c.if-s-at.false c.rest_from-rest.ensures c.cut_field-cut.ensures)

@@ -4,4 +4,4 @@ use Rattle.sheet.proofs.questions.known_line.Goals as goal
 
 pub returns : goal.returns
 unfolding known_line
-returns c = rw c.arity_of-n.ensures
+returns c = rw c.arity_of.ensures

@@ -1,21 +1,22 @@
 -- `relax_edges` meets its contract: the edges below k are closed at the queue's head, for the edges that a chain passes over do not lead there. Assumes nothing.
 use Prim.Native.Nat.{ℕ, ◌≤◌, ◌<◌, ◌+◌, ◌%◌, ◌/◌}
+use Rattle.std.proofs.Common.{unwrap_or}
 use mathlib.Core.Path.{◌≡◌, refl, sym, ap, ap₂, subst, ◌∙◌}
 use mathlib.Core.List.{List}
 use native.Mathlib.Nat.{mod-lt, div-lt_iff_lt-mul}
 use lib.ListN.{length}
 use Rattle.aldlf.specs.declared.Edge.{Edge}
 use Rattle.reach.specs.Marks.{paired}
-use Rattle.graph.specs.Graph.{Graph, at}
+use Rattle.graph.specs.Graph.{Graph, far, at}
 use Rattle.graph.specs.Arcs.{unpacked_of, into_of, Least}
 use Rattle.graph.specs.Configurations.{graph_of, prior_of, EdgeFits}
 use Rattle.graph.proofs.Steps.{step_moves}
 use Rattle.shortest.specs.Progress.{Progress, zero_in}
 use Rattle.shortest.proofs.Progress.{tail_le, skip_to}
-use Rattle.shortest.proofs.Turns.{Turn, turn_none, turn_skip, turn_room, turn_more}
+use Rattle.shortest.proofs.Turns.{Turn, stay, fresh_out, turn_none, turn_skip, turn_room, turn_more}
 use native.Mathlib.Omega.{arith}
 use Rattle.shortest.proofs.distances.relax_edges.Goals as goal
-use Rattle.shortest.proofs.distances.relax_edges.Goals.{Start}
+use Rattle.shortest.proofs.distances.relax_edges.Goals.{Start, in-Some, in_default}
 
 abbrev graph : Start → Graph
 graph S = graph_of S.args.arcs.now S.args.q (paired S.args.words.now)
@@ -73,30 +74,6 @@ passed S D Q k x t L u =
 pub bounds-queue-head : goal.bounds-queue-head
 bounds-queue-head c = let f = few (goal.at.bounds-queue-head c).Start in omega (arith, c.requires.head_lt_tail.0)
 
-pub numbered-here-requires : goal.numbered-here-requires
-numbered-here-requires c = (here_small (goal.at.numbered-here-requires c).Start, c.requires.ready.some_state, c.requires.ready.few_states, c.requires.head_lt_tail.1)
-
-pub overflow_cast-d : goal.overflow_cast-d
-overflow_cast-d c = omega (arith, here_small (goal.at.overflow_cast-d c).Start)
-
-pub offset_bounds-dist-c : goal.offset_bounds-dist-c
-offset_bounds-dist-c c = omega (arith, here_small (goal.at.offset_bounds-dist-c c).Start)
-
-pub bounds-dist-c : goal.bounds-dist-c
-bounds-dist-c c = here_in (goal.at.bounds-dist-c c).Start
-
-pub overflow_add-d : goal.overflow_add-d
-overflow_add-d c = omega (arith, near (goal.at.overflow_add-d c).Start)
-
-pub overflow_add-last : goal.overflow_add-last
-overflow_add-last c = omega (arith, c.requires.ready.few_edges)
-
-pub first_into-k-requires : goal.first_into-k-requires
-first_into-k-requires c =
-    let s = c.numbered-here.ensures.0 in
-    let m = state_fits (goal.at.first_into-k-requires c).Start in
-    (omega arith, c.requires.ready.room)
-
 pub loop-k-init : goal.loop-k-init
 loop-k-init c =
     let S = (goal.at.loop-k-init c).Start in
@@ -106,35 +83,25 @@ loop-k-init c =
     let L = subst (Least (target S) (here S % c.args.q.states) c.args.q.first (last S)) (sym k) (c.requires.ready.into.heads (here S % c.args.q.states) (state_fits S)) in
     (L.above, L.hit, passed S _ _ _ _ _ L (turn_none (graph S) c.args.dist.now c.args.queue.now c.args.turn.head c.args.turn.tail c.requires.head_lt_tail.0))
 
-pub offset_bounds-arcs-k : goal.offset_bounds-arcs-k
-offset_bounds-arcs-k c = omega (arith, c.loop-k-test.true, c.requires.ready.few_edges)
-
-pub bounds-arcs-k : goal.bounds-arcs-k
-bounds-arcs-k c = omega (arith, c.loop-k-test.true, c.requires.ready.few_edges, c.requires.ready.room)
-
-pub prior-p-requires : goal.prior-p-requires
-prior-p-requires c =
-    let l = c.loop-k in
-    record { edge_fits = subst (EdgeFits c.args.q.states) (sym c.unpacked.ensures) (c.requires.ready.each l.k l.invariant.0 c.loop-k-test.true); states_le_state_limit = (c.requires.ready.few_states, c.requires.ready.few_words, omega (arith, c.numbered-here.ensures.1, entry_in (goal.at.prior-p-requires c).Start)) }
+pub prior-requires-clause-edge_fits : goal.prior-requires-clause-edge_fits
+prior-requires-clause-edge_fits c = subst (EdgeFits c.args.q.states) (sym c.unpacked.ensures) (c.requires.ready.each c.loop-k.k c.loop-k.invariant.0 c.loop-k-test.true)
 
 pub relax-tail-requires : goal.relax-tail-requires
 relax-tail-requires c =
     let S = (goal.at.relax-tail-requires c).Start in
     let l = c.loop-k in
-    turn_room (graph S) c.args.dist.now c.args.queue.now c.args.turn.head c.args.turn.tail l.dist l.queue l.k l.tail
-    c.requires.by_index.0 (searched S) l.invariant.2 l.invariant.0 c.loop-k-test.true c.prior-p.result
-
-pub loop-k-smaller : goal.loop-k-smaller
-loop-k-smaller c = let l = c.loop-k in
-    let L = c.requires.ready.into.links l.k l.invariant.0 c.loop-k-test.true in
-    omega (arith, c.into-k.ensures, L.above, c.loop-k-test.true)
+    let there : c.in-Some.p < length l.dist = omega (arith, c.in-Some.ensures.1, l.invariant.2.long, (searched S).whole) in (
+      there,
+      turn_room (graph S) c.args.dist.now c.args.queue.now c.args.turn.head c.args.turn.tail l.dist l.queue l.k l.tail
+          c.requires.by_index.0 (searched S) l.invariant.2 l.invariant.0 c.loop-k-test.true c.in-Some.p there,
+    )
 
 pub loop-k-preserved : goal.loop-k-preserved
 loop-k-preserved c =
     let S = (goal.at.loop-k-preserved c).Start in
     let l = c.loop-k in
     let lt = c.loop-k-test.true in
-    let r = c.relax-tail in
+    let m = c.match-prior in
     let e = l.invariant.1 lt in
     let a = c.args in
     let L = subst (Least (target S) (here S % a.q.states) (l.k + 1) (last S)) (sym c.into-k.ensures) (subst (λ (x : ℕ). Least (target S) x (l.k + 1) (last S) (into_of (at a.arcs.now l.k))) e (c.requires.ready.into.links l.k l.invariant.0 lt)) in (
@@ -142,20 +109,18 @@ loop-k-preserved c =
       L.hit,
       passed S _ _ _ _ _ L
           (turn_more (graph S) a.dist.now a.queue.now a.turn.head a.turn.tail l.dist l.queue l.k l.tail
-          c.requires.by_index.0 (searched S) l.invariant.2 l.invariant.0 lt c.prior-p.result
-          (at a.dist.now (here S) + 1) r.new.dist r.new.queue r.result
-          (told S l.k _ _ _ c.prior-p.ensures c.unpacked.ensures e c.numbered-here.ensures.1)
+          c.requires.by_index.0 (searched S) l.invariant.2 l.invariant.0 lt (unwrap_or c.prior.result far)
+          (at a.dist.now (here S) + 1) m.dist m.queue m.tail
+          (told S l.k _ _ _ c.prior.ensures.0 c.unpacked.ensures e c.numbered-here.ensures.1)
           refl
-          r.ensures),
+          (elim m.branch [
+            | in-Some w ↦ rw (w.in-Some.is, w.dist-is, w.queue-is, w.tail-is) w.relax-tail.ensures
+            | in_default w ↦ rw (w.in_default.is, w.dist-is, w.queue-is, w.tail-is)
+                (stay l.dist l.queue far (at a.dist.now (here S) + 1) l.tail (fresh_out l.dist far (omega (arith, l.invariant.2.long, (searched S).whole, (searched S).fits))))
+          ])),
     )
 
-pub shape_of-dist : goal.shape_of-dist
-shape_of-dist c = c.loop-k.invariant.2.long
-
-pub shape_of-queue : goal.shape_of-queue
-shape_of-queue c = c.loop-k.invariant.2.wide
-
-pub returns : goal.returns
-returns c =
-    let S = (goal.at.returns c).Start in
-    let l = c.loop-k in record { lower_bound = l.invariant.2.after; by_index_2 = λ Z a. skip_to (graph S) (zero_in Z) l.dist l.queue c.args.turn.head l.tail l.k (last S) (l.invariant.2.search Z a) (λ e p le lt st. let x = c.loop-k-test.false in omega arith) }
+pub returns-clause-by_index_2 : goal.returns-clause-by_index_2
+returns-clause-by_index_2 c =
+    let S = (goal.at.returns-clause-by_index_2 c).Start in
+    let l = c.loop-k in λ Z a. skip_to (graph S) (zero_in Z) l.dist l.queue c.args.turn.head l.tail l.k (last S) (l.invariant.2.search Z a) (λ e p le lt st. let x = c.loop-k-test.false in omega arith)

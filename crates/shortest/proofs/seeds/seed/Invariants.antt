@@ -1,4 +1,4 @@
-use Prim.Native.Nat.{◌-◌, ◌*◌, ◌≤◌}
+use Prim.Native.Nat.{◌*◌}
 use mathlib.Core.Path.{◌≡◌}
 use lib.ListN.{length}
 use Rattle.reach.specs.Marks.{paired}
@@ -8,7 +8,4 @@ use Rattle.shortest.proofs.seeds.seed.Given as goal
 
 abbrev pub invariant-loop-j : goal.invariant-loop-j
 invariant-loop-j l =
-    (l.j ≤ length (paired l.words)) × (l.base ≡ l.j * l.q.states) × (length l.dist ≡ length l.initial.dist) × (length l.queue ≡ length l.initial.queue) × Seeded (goal_at (paired l.words) l.q l.goal) l.dist l.queue l.base l.tail
-
-abbrev pub decreases-loop-j : goal.decreases-loop-j
-decreases-loop-j l = length (paired l.words) - l.j
+    (l.base ≡ l.j * l.q.states) × (length l.dist ≡ length l.initial.dist) × (length l.queue ≡ length l.initial.queue) × Seeded (goal_at (paired l.words) l.q l.goal) l.dist l.queue l.base l.tail

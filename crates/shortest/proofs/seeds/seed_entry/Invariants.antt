@@ -1,4 +1,4 @@
-use Prim.Native.Nat.{ℕ, ◌+◌, ◌-◌, ◌≤◌, ◌<◌}
+use Prim.Native.Nat.{ℕ, ◌+◌, ◌≤◌, ◌<◌}
 use mathlib.Core.Path.{◌≡◌}
 use mathlib.Core.Bool.{Bool}
 use lib.ListN.{length}
@@ -8,8 +8,5 @@ use Rattle.shortest.proofs.seeds.seed_entry.Given as goal
 
 abbrev pub invariant-loop-s : goal.invariant-loop-s
 invariant-loop-s l =
-    (l.s ≤ l.states) × (l.end ≤ l.base + l.s) × (length l.dist ≡ length l.initial.dist) × (length l.queue ≡ length l.initial.queue)
-    × ((goal : ℕ → Bool) → ((x : ℕ) → x < l.states → goal (l.base + x) ≡ bit l.goals x) → Seeded goal l.initial.dist l.initial.queue l.base l.tail → Seeded goal l.dist l.queue (l.base + l.s) l.end)
-
-abbrev pub decreases-loop-s : goal.decreases-loop-s
-decreases-loop-s l = l.states - l.s
+    (l.end ≤ l.base + l.s) × (length l.dist ≡ length l.initial.dist) × (length l.queue ≡ length l.initial.queue)
+    × ((goal : ℕ → Bool) → ((x : ℕ) → x < l.fn.states → goal (l.base + x) ≡ bit l.goals x) → Seeded goal l.initial.dist l.initial.queue l.base l.tail → Seeded goal l.dist l.queue (l.base + l.s) l.end)

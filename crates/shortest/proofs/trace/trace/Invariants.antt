@@ -1,4 +1,3 @@
-use Prim.Native.Nat.{◌≤◌, ◌-◌}
 use lib.ListN.{length}
 use Rattle.reach.specs.Marks.{paired}
 use Rattle.graph.specs.Configurations.{graph_of}
@@ -7,7 +6,4 @@ use Rattle.shortest.proofs.Traced.{Traced}
 use Rattle.shortest.proofs.trace.trace.Given as goal
 
 abbrev pub invariant-loop-k : goal.invariant-loop-k
-invariant-loop-k l = (l.k ≤ l.total) × Inside l.q.states (length (paired l.words)) l.here × Traced (graph_of l.arcs l.q (paired l.words)) l.dist l.initial.out (number_of l.q.states l.initial.here) l.out (number_of l.q.states l.here) l.k
-
-abbrev pub decreases-loop-k : goal.decreases-loop-k
-decreases-loop-k l = l.total - l.k
+invariant-loop-k l = Inside l.q.states (length (paired l.words)) l.here × Traced (graph_of l.arcs l.q (paired l.words)) l.dist l.initial.out (number_of l.q.states l.initial.here) l.out (number_of l.q.states l.here) l.k

@@ -1,4 +1,4 @@
-use Prim.Native.Nat.{◌+◌, ◌-◌, ◌≤◌}
+use Prim.Native.Nat.{◌+◌}
 use mathlib.Core.Path.{◌≡◌}
 use mathlib.Core.Bool.{◌||◌}
 use Rattle.aldlf.specs.Sheet.{ahead, back, sheet_of}
@@ -9,9 +9,5 @@ use Rattle.stands.proofs.looking.with_edges.Given as goal
 
 abbrev pub invariant-loop-c : goal.invariant-loop-c
 invariant-loop-c l =
-    (l.c ≤ l.count)
-    × ((t : Table) → Packed t l.numbers
-    → (l.ahead ≡ l.initial.ahead || any_below l.c (λ e. same_dir ((sheet_of t).edge (l.first + e)).dir ahead)) × (l.back ≡ l.initial.back || any_below l.c (λ e. same_dir ((sheet_of t).edge (l.first + e)).dir back)))
-
-abbrev pub decreases-loop-c : goal.decreases-loop-c
-decreases-loop-c l = l.count - l.c
+    ((t : Table) → Packed t l.numbers
+    → (l.ahead ≡ l.fn.looks.ahead || any_below l.c (λ e. same_dir ((sheet_of t).edge (l.x.first + e)).dir ahead)) × (l.back ≡ l.fn.looks.back || any_below l.c (λ e. same_dir ((sheet_of t).edge (l.x.first + e)).dir back)))

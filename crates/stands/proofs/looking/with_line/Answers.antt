@@ -1,7 +1,10 @@
 -- `with_line` meets its contract: an automaton that was asked already gives nothing new. Assumes nothing.
 use Prim.Native.Nat.{◌+◌, ◌≤◌, ◌<◌}
 use native.Mathlib.Omega.{arith}
-use mathlib.Core.Path.{◌≡◌, refl, sym, subst, ◌∙◌}
+use mathlib.Core.Path.{◌≡◌, refl, sym, ap, subst, ◌∙◌}
+use mathlib.Core.Bool.{not}
+use mathlib.Core.Logic.{◌⊎◌}
+use Rattle.sheet.proofs.Asked.{yes_is, no_is}
 use Rattle.aldlf.specs.Constants.{node_limit, automaton_limit, edge_limit, letter_d, letter_b}
 use Rattle.aldlf.specs.Sheet.{line_of, sheet_of}
 use Rattle.aldlf.specs.declared.Automaton.{Automaton}
@@ -15,7 +18,7 @@ use Rattle.stands.proofs.LentLaws.{line_named}
 use Rattle.stands.proofs.MarkLaws.{line_read}
 use Rattle.stands.proofs.LookLaws.{with_modal, with_none, edges_ways, asked_next}
 use Rattle.stands.proofs.looking.with_line.Goals as goal
-use Rattle.stands.proofs.looking.with_line.Goals.{After-line_at-line, Start, Then-kind}
+use Rattle.stands.proofs.looking.with_line.Goals.{After-line_at-line, Else-not-is_modal, Start}
 
 few : (S : Start) → S.args.node.0 < node_limit
 few S = node_few S.requires.lent.0 S.args.numbers.now S.requires.lent.1 S.args.node.0 S.requires.asked_len.1
@@ -29,52 +32,54 @@ line_is : (c : After-line_at-line) → let x = c.line_at-line.result in (t : Tab
 line_is c t L = line_read t c.args.node.0 c.line_at-line.result (read c t L)
 
 -- the automaton of a D or B line is in use
-there : (c : Then-kind) → c.line_at-line.result.a < (lent_used c.args.numbers.now).automata
-there c =
-    ((subst (LineIn (lent_used c.args.numbers.now).automata) (sym c.line_at-line.ensures) (line_named c.requires.lent.0 c.args.numbers.now c.requires.lent.1 c.args.node.0 c.requires.asked_len.1)
-    ).modal (either_letter _ letter_d letter_b c.if-kind.true)).0
+modal : (c : Else-not-is_modal) → (c.line_at-line.result.kind ≡ letter_d) ⊎ (c.line_at-line.result.kind ≡ letter_b)
+modal c = either_letter _ letter_d letter_b (yes_is c.is_modal.ensures (ap not c.if-not-is_modal.false))
 
-named : (c : Then-kind) → c.line_at-line.result.a < automaton_limit
+there : (c : Else-not-is_modal) → c.line_at-line.result.a < (lent_used c.args.numbers.now).automata
+there c =
+    ((subst (LineIn (lent_used c.args.numbers.now).automata) (sym c.line_at-line.ensures) (line_named c.requires.lent.0 c.args.numbers.now c.requires.lent.1 c.args.node.0 c.requires.asked_len.1)).modal (modal c)).0
+
+named : (c : Else-not-is_modal) → c.line_at-line.result.a < automaton_limit
 named c = automaton_few c.requires.lent.0 c.args.numbers.now c.requires.lent.1 c.line_at-line.result.a (there c)
 
-pub line_at-line-requires : goal.line_at-line-requires
-line_at-line-requires c = (c.requires.lent.1.packed.size, few (goal.at.line_at-line-requires c).Start)
+pub returns-then-not-is_modal : goal.returns-then-not-is_modal
+returns-then-not-is_modal c =
+    let x = c.line_at-line.result in
+    let none = neither_letter x.kind letter_d letter_b (no_is c.is_modal.ensures (ap not c.if-not-is_modal.true)) in
+    λ t L. (with_none (sheet_of t) x.kind x.a x.b ((sheet_of t).line c.args.node.0) (line_is (goal.at.returns-then-not-is_modal c).After-line_at-line t L) c.args.looks c.args.looks none.0 none.1 refl, c.requires.asked t L)
 
 pub bounds-asked-m : goal.bounds-asked-m
-bounds-asked-m c = omega (arith, named (goal.at.bounds-asked-m c).Then-kind, c.requires.asked_len.0)
+bounds-asked-m c = omega (arith, named (goal.at.bounds-asked-m c).Else-not-is_modal, c.requires.asked_len.0)
 
 pub returns-then-asked-m : goal.returns-then-asked-m
 returns-then-asked-m c =
     let x = c.line_at-line.result in
+    let at = goal.at.returns-then-asked-m c in
     λ t L. (
-      with_modal (sheet_of t) x.kind x.a x.b ((sheet_of t).line c.args.node.0) (line_is (goal.at.returns-then-asked-m c).After-line_at-line t L) c.args.looks c.args.looks (either_letter _ letter_d letter_b c.if-kind.true) (c.requires.asked t L x.a c.if-asked-m.true),
+      with_modal (sheet_of t) x.kind x.a x.b ((sheet_of t).line c.args.node.0) (line_is at.After-line_at-line t L) c.args.looks c.args.looks (modal at.Else-not-is_modal) (c.requires.asked t L x.a c.if-asked-m.true),
       c.requires.asked t L,
     )
 
-pub bounds-asked-m-then-kind : goal.bounds-asked-m-then-kind
-bounds-asked-m-then-kind c = omega (arith, named (goal.at.bounds-asked-m-then-kind c).Then-kind, c.requires.asked_len.0)
+pub bounds-asked-m-2 : goal.bounds-asked-m-2
+bounds-asked-m-2 c = omega (arith, named (goal.at.bounds-asked-m-2 c).Else-not-is_modal, c.requires.asked_len.0)
 
 pub automaton_at-requires : goal.automaton_at-requires
-automaton_at-requires c = (c.requires.lent.1.packed.size, named (goal.at.automaton_at-requires c).Then-kind)
+automaton_at-requires c = (c.requires.lent.1.packed.size, named (goal.at.automaton_at-requires c).Else-not-is_modal)
 
 pub with_edges-requires : goal.with_edges-requires
 with_edges-requires c =
     let L = c.requires.lent.1 in
+    let at = (goal.at.with_edges-requires c).Else-not-is_modal in
     let m = c.line_at-line.result.a in
-    let a = L.facts.automaton m (automaton_used c.requires.lent.0 c.args.numbers.now L m (there (goal.at.with_edges-requires c).Then-kind)) in
-    (L.packed.size, subst (λ (x : Automaton). x.first + x.count ≤ edge_limit) (sym (c.automaton_at.ensures ∙ L.packed.automaton_is m (named (goal.at.with_edges-requires c).Then-kind))) (omega (arith, a.edges≤, L.facts.edges≤)))
-
-pub returns-then-kind : goal.returns-then-kind
-returns-then-kind c =
-    let x = c.line_at-line.result in
-    λ t L.
-    let w = edges_ways t x.a c.automaton_at.result c.args.looks c.with_edges.result (c.automaton_at.ensures ∙ L.packed.automaton_is x.a (named (goal.at.returns-then-kind c).Then-kind)) (c.with_edges.ensures t L.packed) in (
-      with_modal (sheet_of t) x.kind x.a x.b ((sheet_of t).line c.args.node.0) (line_is (goal.at.returns-then-kind c).After-line_at-line t L) c.args.looks c.with_edges.result (either_letter _ letter_d letter_b c.if-kind.true) w,
-      asked_next (sheet_of t) x.a c.args.looks c.with_edges.result c.args.asked.now (c.requires.asked t L) w,
-    )
+    let a = L.facts.automaton m (automaton_used c.requires.lent.0 c.args.numbers.now L m (there at)) in
+    (L.packed.size, subst (λ (x : Automaton). x.first + x.count ≤ edge_limit) (sym (c.automaton_at.ensures ∙ L.packed.automaton_is m (named at))) (omega (arith, a.edges≤, L.facts.edges≤)))
 
 pub returns : goal.returns
 returns c =
     let x = c.line_at-line.result in
-    let none = neither_letter x.kind letter_d letter_b c.if-kind.false in
-    λ t L. (with_none (sheet_of t) x.kind x.a x.b ((sheet_of t).line c.args.node.0) (line_is (goal.at.returns c).After-line_at-line t L) c.args.looks c.args.looks none.0 none.1 refl, c.requires.asked t L)
+    let at = goal.at.returns c in
+    λ t L.
+    let w = edges_ways t x.a c.automaton_at.result c.args.looks c.with_edges.result (c.automaton_at.ensures ∙ L.packed.automaton_is x.a (named at.Else-not-is_modal)) (c.with_edges.ensures t L.packed) in (
+      with_modal (sheet_of t) x.kind x.a x.b ((sheet_of t).line c.args.node.0) (line_is at.After-line_at-line t L) c.args.looks c.with_edges.result (modal at.Else-not-is_modal) w,
+      asked_next (sheet_of t) x.a c.args.looks c.with_edges.result c.args.asked.now (c.requires.asked t L) w,
+    )

@@ -1,15 +1,16 @@
 -- `mark_line` meets its contract, letter by letter. Assumes nothing.
-use Prim.Native.Nat.{◌<◌}
+use Prim.Native.Nat.{ℕ, ◌<◌}
+use mathlib.Core.Logic.{◌⊎◌, inl, inr}
 use native.Mathlib.Omega.{arith}
-use mathlib.Core.Path.{◌≡◌, sym, ap, subst, ◌∙◌}
+use Rattle.std.proofs.Common.{rules}
+use mathlib.Core.Path.{◌≡◌, refl, sym, ap, subst, ◌∙◌}
 use mathlib.Core.Bool.{Bool, true}
 use mathlib.Core.List.{List}
-use lib.ListN.{length, set, length-set}
-use Rattle.aldlf.specs.Constants.{node_limit, letter_a, letter_o, letter_d, letter_b}
+use lib.ListN.{length-set}
+use Rattle.aldlf.specs.Constants.{node_limit}
 use Rattle.aldlf.specs.Sheet.{Line, line_of, sheet_of}
 use Rattle.aldlf.specs.Stands.{mark_line}
 use Rattle.aldlf.specs.declared.Table.{Table}
-use Rattle.aldlf.proofs.Letters.{either_letter, neither_letter}
 use Rattle.packing.specs.Numbers.{lent_used}
 use Rattle.sheet.specs.Facts.{node_at, Lent}
 use Rattle.stands.specs.Marking.{Marked, LineIn}
@@ -37,48 +38,53 @@ as_read c t L q e =
     line_marked (sheet_of t) ((sheet_of t).line c.args.node.0) c.args.flags.now q c.args.taken.now (c.requires.taken t L)
     (e ∙ ap (λ (l : Line). mark_line (sheet_of t) l c.args.flags.now) (line_read t c.args.node.0 c.line_at-line.result (read c t L)))
 
+-- a D or B, in either order
+other_way : {k x y : ℕ} → (k ≡ x) ⊎ (k ≡ y) → (k ≡ y) ⊎ (k ≡ x)
+other_way (inl e) = inr e
+other_way (inr e) = inl e
+
 pub line_at-line-requires : goal.line_at-line-requires
 line_at-line-requires c = (c.requires.lent.1.packed.size, few (goal.at.line_at-line-requires c).Start)
 
-pub mark-requires : goal.mark-requires
-mark-requires c = omega (arith, (named (goal.at.mark-requires c).After-line_at-line).one_node c.if-kind-eq78.true, c.requires.flags_len.0)
+pub bounds-flags-line : goal.bounds-flags-line
+bounds-flags-line c = omega (arith, (named (goal.at.bounds-flags-line c).After-line_at-line).one_node c.in-78.is, c.requires.flags_len.0)
 
-pub returns-then-kind-eq78 : goal.returns-then-kind-eq78
-returns-then-kind-eq78 c =
+pub returns-in-78 : goal.returns-in-78
+returns-in-78 c =
     let x = c.line_at-line.result in
-    λ t L. as_read (goal.at.returns-then-kind-eq78 c).After-line_at-line t L _ (c.mark.ensures ∙ marks_not (sheet_of t) x.kind x.a x.b c.args.flags.now c.if-kind-eq78.true)
+    λ t L. as_read (goal.at.returns-in-78 c).After-line_at-line t L _ (marks_not (sheet_of t) x.kind x.a x.b c.args.flags.now c.in-78.is)
 
-pub mark-requires-then-kind : goal.mark-requires-then-kind
-mark-requires-then-kind c = omega (arith, ((named (goal.at.mark-requires-then-kind c).After-line_at-line).two_nodes (either_letter _ letter_a letter_o c.if-kind.true)).0, c.requires.flags_len.0)
+pub bounds-flags-line-in-65 : goal.bounds-flags-line-in-65
+bounds-flags-line-in-65 c = omega (arith, ((named (goal.at.bounds-flags-line-in-65 c).After-line_at-line).two_nodes c.in-65.is).0, c.requires.flags_len.0)
 
-pub mark-requires-then-kind-2 : goal.mark-requires-then-kind-2
-mark-requires-then-kind-2 c =
-    omega (arith, ((named (goal.at.mark-requires-then-kind-2 c).After-line_at-line).two_nodes (either_letter _ letter_a letter_o c.if-kind.true)).1, c.requires.flags_len.0, ap length c.mark-then-kind.ensures ∙ length-set c.args.flags.now _ true)
+pub bounds-flags-line-in-65-2 : goal.bounds-flags-line-in-65-2
+bounds-flags-line-in-65-2 c = omega (arith, ((named (goal.at.bounds-flags-line-in-65-2 c).After-line_at-line).two_nodes c.in-65.is).1, c.requires.flags_len.0, length-set c.args.flags.now c.line_at-line.result.a true)
 
-pub returns-then-kind : goal.returns-then-kind
-returns-then-kind c =
+pub returns-in-65 : goal.returns-in-65
+returns-in-65 c =
     let x = c.line_at-line.result in
-    λ t L. as_read (goal.at.returns-then-kind c).After-line_at-line t L _
-    (c.mark-then-kind-2.ensures ∙ ap (λ (p : List Bool). set p x.b true) c.mark-then-kind.ensures
-    ∙ marks_both (sheet_of t) x.kind x.a x.b c.args.flags.now (either_letter _ letter_a letter_o c.if-kind.true))
+    λ t L. as_read (goal.at.returns-in-65 c).After-line_at-line t L _ (marks_both (sheet_of t) x.kind x.a x.b c.args.flags.now c.in-65.is)
 
-pub mark-requires-then-kind-2-2 : goal.mark-requires-then-kind-2-2
-mark-requires-then-kind-2-2 c = omega (arith, ((named (goal.at.mark-requires-then-kind-2-2 c).After-line_at-line).modal (either_letter _ letter_d letter_b c.if-kind-2.true)).1, c.requires.flags_len.0)
+pub bounds-flags-line-in-68 : goal.bounds-flags-line-in-68
+bounds-flags-line-in-68 c = omega (arith, ((named (goal.at.bounds-flags-line-in-68 c).After-line_at-line).modal (other_way c.in-68.is)).1, c.requires.flags_len.0)
 
 pub mark_automaton-requires : goal.mark_automaton-requires
 mark_automaton-requires c =
-    let x = c.line_at-line.result in record { lent = c.requires.lent; flags_len = (ap length c.mark-then-kind-2-2.ensures ∙ length-set c.args.flags.now _ true ∙ c.requires.flags_len.0, c.requires.flags_len.1, ((named (goal.at.mark_automaton-requires c).After-line_at-line).modal (either_letter _ letter_d letter_b c.if-kind-2.true)).0); taken = λ t L. operand_taken (sheet_of t) x.b c.args.flags.now _ c.args.taken.now (c.requires.taken t L) c.mark-then-kind-2-2.ensures }
+    let x = c.line_at-line.result in record {
+      lent = c.requires.lent;
+      flags_len = (length-set c.args.flags.now x.b true ∙ c.requires.flags_len.0, c.requires.flags_len.1, ((named (goal.at.mark_automaton-requires c).After-line_at-line).modal (other_way c.in-68.is)).0);
+      taken = λ t L. operand_taken (sheet_of t) x.b c.args.flags.now _ c.args.taken.now (c.requires.taken t L) refl;
+    }
 
-pub returns-then-kind-2 : goal.returns-then-kind-2
-returns-then-kind-2 c =
+pub returns-in-68 : goal.returns-in-68
+returns-in-68 c =
     let x = c.line_at-line.result in
     λ t L.
-    modal_marked (sheet_of t) x.kind x.a x.b c.args.flags.now (either_letter _ letter_d letter_b c.if-kind-2.true) ((sheet_of t).line c.args.node.0)
-    (line_read t c.args.node.0 x (read (goal.at.returns-then-kind-2 c).After-line_at-line t L)) _ _ _ c.mark-then-kind-2-2.ensures (c.mark_automaton.ensures t L)
+    modal_marked (sheet_of t) x.kind x.a x.b c.args.flags.now (other_way c.in-68.is) ((sheet_of t).line c.args.node.0)
+    (line_read t c.args.node.0 x (read (goal.at.returns-in-68 c).After-line_at-line t L)) _ _ _ refl (c.mark_automaton.ensures t L)
 
-pub returns : goal.returns
-returns c =
+pub returns-in_default : goal.returns-in_default
+returns-in_default c =
     let x = c.line_at-line.result in
-    let both = neither_letter x.kind letter_a letter_o c.if-kind.false in
-    let modal = neither_letter x.kind letter_d letter_b c.if-kind-2.false in
-    λ t L. as_read (goal.at.returns c).After-line_at-line t L _ (marks_none (sheet_of t) x.kind x.a x.b c.args.flags.now c.if-kind-eq78.false both.0 both.1 modal.0 modal.1)
+    λ t L. as_read (goal.at.returns-in_default c).After-line_at-line t L _
+    (marks_none (sheet_of t) x.kind x.a x.b c.args.flags.now (λ z. grind (arith, z)) (λ z. search rules) (λ z. search rules) (λ z. search rules) (λ z. search rules))

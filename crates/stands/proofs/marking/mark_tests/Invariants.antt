@@ -1,4 +1,3 @@
-use Prim.Native.Nat.{◌-◌, ◌≤◌}
 use mathlib.Core.Path.{◌≡◌}
 use lib.ListN.{length}
 use Rattle.aldlf.specs.Constants.{node_limit}
@@ -9,7 +8,4 @@ use Rattle.packing.specs.Packed.{Packed}
 use Rattle.stands.proofs.marking.mark_tests.Given as goal
 
 abbrev pub invariant-loop-c : goal.invariant-loop-c
-invariant-loop-c l = (l.c ≤ l.count) × (length l.flags ≡ node_limit) × ((t : Table) → Packed t l.numbers → l.flags ≡ mark_tests (sheet_of t) l.first l.c l.initial.flags)
-
-abbrev pub decreases-loop-c : goal.decreases-loop-c
-decreases-loop-c l = l.count - l.c
+invariant-loop-c l = (length l.flags ≡ node_limit) × ((t : Table) → Packed t l.numbers → l.flags ≡ mark_tests (sheet_of t) l.x.first l.c l.initial.flags)

@@ -5,6 +5,5 @@ use Rattle.shortest.specs.Goals.{GoalAt}
 use Rattle.shortest.proofs.Greedy.{descends}
 use Rattle.walk.proofs.search.search.Goals as goal
 
-pub show-requires : goal.show-requires
-show-requires c =
-    let q = c.args.query.automaton in record { ready = c.requires.ready; asked = c.requires.asked; descends = descends (graph_of c.args.arcs.now q (paired c.args.words.now)) (GoalAt (paired c.args.words.now) q c.args.query.goal) _ (start_of q c.args.query.entry.0) c.distances.ensures }
+pub show-requires-clause-descends : goal.show-requires-clause-descends
+show-requires-clause-descends g c = let q = c.args.query.automaton in descends (graph_of c.args.arcs.now q (paired c.args.words.now)) (GoalAt (paired c.args.words.now) q c.args.query.goal) _ (start_of q c.args.query.entry.0) c.distances.ensures

@@ -1,6 +1,0 @@
--- `counts` is safe and ends: each index is below the length. Assumes nothing.
-use Rattle.std.proofs.Common.{◌-◌, length}
-use Rattle.batch_tests.proofs.show.counts.Given as goal
-
-abbrev pub decreases-loop-i : goal.decreases-loop-i
-decreases-loop-i g l = length l.held - l.i

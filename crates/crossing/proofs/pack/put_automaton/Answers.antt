@@ -1,6 +1,0 @@
--- `put_automaton` meets its contract: its stores are a run. Assumes nothing.
-use Rattle.crossing.proofs.Packed.{places}
-use Rattle.crossing.proofs.pack.put_automaton.Goals as goal
-
-pub returns : goal.returns
-returns c = let e = places c.args.p in cc

@@ -1,8 +1,0 @@
--- `read_to` meets its contract. Assumes nothing.
-use mathlib.Core.Path.{refl}
-use Rattle.parsing.specs.Build.{got_of}
-use Rattle.parsing.proofs.answers.read_to.Goals as goal
-
-pub returns : goal.returns
-unfolding got_of
-returns c = λ out. refl

@@ -1,9 +1,0 @@
--- `kept` meets its contract, where it is kept and where not. Assumes nothing.
-use mathlib.Core.Path.{refl}
-use Rattle.stands.proofs.trimming.kept.Goals as goal
-
-pub returns-then-on : goal.returns-then-on
-returns-then-on c = rw c.if-on.true refl
-
-pub returns-else-on : goal.returns-else-on
-returns-else-on c = rw c.if-on.false refl

@@ -1,6 +1,0 @@
--- `each` ends: every turn goes past a line. Assumes nothing.
-use Rattle.std.proofs.Common.{◌-◌, length}
-use Rattle.walk_tests.proofs.each.Given as goal
-
-abbrev pub decreases-loop-at : goal.decreases-loop-at
-decreases-loop-at g l = length l.lines - l.at

@@ -1,6 +1,0 @@
--- `places` is safe and ends: each index is below the length. Assumes nothing.
-use Rattle.std.proofs.Common.{◌-◌, length}
-use Rattle.walk_tests.proofs.show.places.Given as goal
-
-abbrev pub decreases-loop-i : goal.decreases-loop-i
-decreases-loop-i g l = length l.edges - l.i
