@@ -1,6 +1,6 @@
 // Formulas read. `stdin` has the cases, one line each: the whole line is the formula's text. `stdout` has what docs/FORMULAS.md
 // gives, worked by hand: the text, the number and the place, then the sheet that gives the table, its lines parted by spaces, or
-// beside a refusal whether the table is all zeros. Of a long text its length and its start stand for it.
+// beside a refusal the zeros that stand for the table that it doesn't give. Of a long text its length and its start stand for it.
 #![tactic(auto)]
 
 use aldlf::Table;

@@ -97,6 +97,14 @@ module _ (f : ℕ → ℕ) where
       go j h (inl p) = let q : k ≡ j = eqb-true k j p in subst (λ (z : ℕ). get_or (set out k v) z 0 ≡ f z) q (get_or-set_same out k v 0 (omega (arith, F.size)) ∙ e)
       go j h (inr p) = let ne : ¬ (k ≡ j) = eqb-false k j p in get_or-set_other out k j v 0 (λ z. ne (sym z)) ∙ F.done j (omega arith)
 
+  -- a number that is 0 stands there already
+  pub filled_same : (out : List ℕ) (k : ℕ) → Filled f out k → 0 ≡ f k → Filled f out (k + 1)
+  filled_same out k F e = record { size = F.size; done = λ j h. go j h (bool_cases (eqb k j)); left = λ j h. F.left j (omega arith) }
+    where
+      go : (j : ℕ) → j < k + 1 → (eqb k j ≡ true) ⊎ (eqb k j ≡ false) → get_or out j 0 ≡ f j
+      go j h (inl p) = let q : k ≡ j = eqb-true k j p in F.left j (omega arith) ∙ e ∙ ap f q
+      go j h (inr p) = let ne : ¬ (k ≡ j) = eqb-false k j p in F.done j (omega arith)
+
   pub filled_end : (out : List ℕ) (n : ℕ) → Filled f out n → ((j : ℕ) → n ≤ j → f j ≡ 0) → out ≡ tabulate node_limit f
   filled_end out n F rest = ext_get_or 0 out (tabulate node_limit f) (F.size ∙ sym (length-tabulate node_limit f))
       (λ j l. place j (bool_cases (ltb j n)) ∙ sym (get_d_tabulate node_limit f j 0 (omega (arith, F.size))))

@@ -1,10 +1,10 @@
 -- What is known where a node is judged: what its code asks, the edges of its automaton, and the node done.
 use Rattle.std.specs.Prelude.{◌≡◌, ℕ, ◌+◌, ◌-◌, ◌^◌, ◌<◌, ◌≤◌, Bool, true, false, List, length, get_or, take, drop}
 use native.Mathlib.Omega.{arith}
-use mathlib.Core.Path.{sym, subst, ap, ◌∙◌}
+use mathlib.Core.Path.{refl, sym, subst, ap, ◌∙◌}
 use lib.ListN.{length-drop}
 use lib.Seq.{get_or-take, get_or-drop, length-take-le}
-use Rattle.aldlf.specs.Constants.{node_limit}
+use Rattle.aldlf.specs.Constants.{node_limit, automaton_limit}
 use Rattle.aldlf.specs.Sheet.{sheet_of, line_of}
 use Rattle.aldlf.specs.Verdict.{row_of}
 use Rattle.aldlf.specs.Outcomes.{bits_of}
@@ -12,11 +12,13 @@ use Rattle.aldlf.specs.declared.Table.{Table}
 use Rattle.aldlf.specs.declared.Row.{Row}
 use Rattle.aldlf.specs.declared.Automaton.{Automaton}
 use Rattle.aldlf.specs.declared.NodeLine.{NodeLine}
+use Rattle.aldlf.specs.declared.Way.{Way}
+use Rattle.packing.specs.Numbers.{lent_automaton}
 use Rattle.sheet.specs.Facts.{node_at, automaton_at, AutomatonFacts, Lent}
 use Rattle.reach.specs.Marks.{at, EdgesFit}
 use Rattle.judge.specs.declared.nodes.Job.{Job}
 use Rattle.judge.specs.declared.nodes.NodeAnswer.{NodeAnswer}
-use Rattle.judge.specs.Nodes.{modal_kind, says_now, PlainFits, Added, ModalFits, ModalDone, Known, NodeDone, cut_of}
+use Rattle.judge.specs.Nodes.{modal_kind, says_now, PlainFits, Added, ModalFits, ModalDone, Known, Words, NodeDone, cut_of}
 use Rattle.judge.proofs.Slices.{edges_fit, slice_reached}
 use Rattle.judge.proofs.WordLaws.{plain_of, plain_bits, words_low, added_words, added_count}
 use Rattle.judge.proofs.RowLaws.{inner, row_form, plain-number}
@@ -131,3 +133,20 @@ module _ (t : Table) (row : Row) (j : Job) (log edges words : List ℕ) (K : Kno
         subst (λ (x : Job). NodeDone t row x log after r) (sym job_is)
         (node_modal t row j.way log k facts kind_is words K.words_are E after r (subst (λ (x : Job). ModalDone (cut_of x.automaton edges) x words after r) job_is M)
         (slice_reached t K.lent.facts.nodes≤ K.lent.facts.edges≤ m facts edges E K.lent.packed (size t m facts edges K.lent) (at_cut t m facts edges K.lent)))
+
+-- The node at hand ----------------------------------------------------------------------------------------------------------------
+
+abbrev pub job_of : ℕ → NodeLine → Automaton → Row → Way → Job
+job_of k line q row way = record { number = record { 0 = k }; line = line; automaton = q; given = get_or row.bits k 0; way = way }
+
+module _ (t : Table) (row : Row) (way : Way) (log edges words : List ℕ) (k : ℕ) (line : NodeLine) (L : Lent t edges) (below : k < t.used.nodes) (is : line ≡ node_at t k) where
+  pub named : modal_kind line.kind ≡ true → line.a < automaton_limit
+  named e =
+      let m = modal_facts t L.facts k (ap (λ (x : NodeLine). modal_kind x.kind) (sym is) ∙ e) in
+      omega (arith, ap (λ (x : NodeLine). x.a) is, m.automaton<, L.facts.automata≤)
+
+  pub known_plain : modal_kind line.kind ≡ false → Words (sheet_of t) (bits_of row) log k words → Known t row (job_of k line (automaton_at t line.a) row way) log edges words
+  known_plain e ws = record { lent = L; in_table = below; line_is = is; automaton_is = λ h. refl; given_is = refl; words_are = ws }
+
+  pub known_modal : (q : Automaton) → modal_kind line.kind ≡ true → q ≡ lent_automaton edges line.a → Words (sheet_of t) (bits_of row) log k words → Known t row (job_of k line q row way) log edges words
+  known_modal q e qe ws = record { lent = L; in_table = below; line_is = is; automaton_is = λ h. qe ∙ L.packed.automaton_is line.a (named e); given_is = refl; words_are = ws }

@@ -1,6 +1,6 @@
 -- Helper definitions that only the proofs of the code need: a node judged from the words of those before it, and what is known on the way.
-use Rattle.std.specs.Prelude.{◌≡◌, ℕ, suc, ◌+◌, ◌-◌, ◌*◌, ◌%◌, ◌^◌, ◌<◌, ◌≤◌, Bool, true, false, not, ◌&&◌, ◌||◌, ◌⊎◌, List, ◌++◌, length, take, drop, ◌==◌, nat_eq, slice_index}
-use Rattle.aldlf.specs.Constants.{node_limit, word_bits, automaton_limit, state_limit, letter_p, letter_n, letter_a, letter_o, letter_d, letter_b}
+use Rattle.std.specs.Prelude.{◌≡◌, ℕ, suc, ◌+◌, ◌-◌, ◌*◌, ◌%◌, ◌^◌, ◌<◌, ◌≤◌, Bool, true, false, not, ◌&&◌, ◌||◌, ◌⊎◌, List, ◌++◌, length, take, drop, ◌==◌, nat_eq, slice_index, Option, Some, IfSome}
+use Rattle.aldlf.specs.Constants.{node_limit, word_bits, state_limit, letter_p, letter_n, letter_a, letter_o, letter_d, letter_b}
 use Rattle.aldlf.specs.Sheet.{Sheet, Line, T, F, P, N, A, O, D, B, bit, sheet_of}
 use Rattle.aldlf.specs.Parts.{Bits, row_entry, counts}
 use Rattle.aldlf.specs.Verdict.{facing, judge, row_of, plain}
@@ -120,17 +120,21 @@ pub record Stepped (E words : List ℕ) (looks : ℕ) (C : List ℕ) : Type 0 wh
   pub placed : steps.Placed (length words) C
   pub filled : steps.Filled E words (length words) C
 
--- The steps at hand are those of an automaton that stands above node k; of none where there is no such automaton.
-pub record Kept (t : Table) (edges words : List ℕ) (k : ℕ) (have : Have) (C : List ℕ) : Type 0 where
-  pub long : length C ≡ 49 * length words
-  pub there : have.automaton < automaton_limit → have.automaton < t.used.automata
-  pub above : have.automaton < automaton_limit → (automaton_at t have.automaton).before ≤ k
-  pub stepped : have.automaton < automaton_limit → Stepped (cut_of (automaton_at t have.automaton) edges) words have.looks C
+-- The steps are those of an automaton that stands above node k.
+pub record Served (t : Table) (edges words : List ℕ) (k : ℕ) (have : Have) (C : List ℕ) : Type 0 where
+  pub there : have.automaton < t.used.automata
+  pub above : (automaton_at t have.automaton).before ≤ k
+  pub stepped : Stepped (cut_of (automaton_at t have.automaton) edges) words have.looks C
 
--- The steps at hand are ready for a node: those of its automaton, if it is a D or B.
+-- The steps at hand, if any are, are those of an automaton that stands above node k.
+pub record Kept (t : Table) (edges words : List ℕ) (k : ℕ) (have : Option Have) (C : List ℕ) : Type 0 where
+  pub long : length C ≡ 49 * length words
+  pub served : IfSome have (λ h. Served t edges words k h C)
+
+-- The steps at hand are ready for a D or B node: those of its automaton.
 pub record Ready (t : Table) (j : Job) (edges words : List ℕ) (have : Have) (C : List ℕ) : Type 0 where
-  pub kept : Kept t edges words j.number.0 have C
-  pub mine : modal_kind j.line.kind ≡ true → Stepped (cut_of j.automaton edges) words have.looks C
+  pub kept : Kept t edges words j.number.0 (Some have) C
+  pub mine : Stepped (cut_of j.automaton edges) words have.looks C
 
 -- All nodes are judged; the count is that of the last one's bits in the words.
 pub record CoreDone (t : Table) (p : Part) (log words : List ℕ) (r : CoreAnswer) : Type 0 where
@@ -139,7 +143,7 @@ pub record CoreDone (t : Table) (p : Part) (log words : List ℕ) (r : CoreAnswe
   pub held_is : r.held ≡ bit_count (length log) words (t.used.nodes - 1)
 
 -- The first k nodes are judged, the count is that of the last one's bits, and whose steps are at hand.
-pub record Through (t : Table) (p : Part) (log numbers words steps out : List ℕ) (held : ℕ) (have : Have) (k : ℕ) : Type 0 where
+pub record Through (t : Table) (p : Part) (log numbers words steps out : List ℕ) (held : ℕ) (have : Option Have) (k : ℕ) : Type 0 where
   pub words_are : Words (sheet_of t) (bits_of p.row) log k words
   pub row_is : Filled (λ j. pack_bits state_limit (λ s. row_of p.way (sheet_of t) log (bits_of p.row) j s)) out k
   pub held_is : 1 ≤ k → held ≡ set_in (length log) words (k - 1)

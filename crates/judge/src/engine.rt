@@ -3,11 +3,11 @@ ghost use Rattle.std.specs.Prelude.{◌≡◌, ℕ, ◌*◌, ◌<◌, ◌≤◌,
 ghost use Rattle.aldlf.specs.Constants.{entry_limit};
 ghost use Rattle.aldlf.specs.declared.Table.{Table};
 ghost use Rattle.reach.specs.Marks.{at};
-ghost use Rattle.judge.specs.Nodes.{CoreDone, CorePut, modal_kind};
+ghost use Rattle.judge.specs.Nodes.{CoreDone, CorePut};
 ghost use Rattle.sheet.specs.Facts.{Lent};
 
-use super::nodes::{Have, Job, judge_node, ready};
-use aldlf::{Node, NodeLine, Row, Way};
+use super::nodes::{Have, Job, judge_modal, judge_plain, ready};
+use aldlf::{Node, Row, Way};
 use packing::places::{automaton_at, line_at, used_in};
 use stands::lent::is_modal;
 
@@ -104,36 +104,31 @@ fn judge_nodes(
     let row = part.row;
     let way = part.way;
     let count = used_in(numbers).nodes;
-    let mut have = Have {
-        automaton: 16,
-        looks: 0,
-    };
+    let mut have: Option<Have> = None;
     for k in 0..count {
-        let line = line_at(numbers, Node(k));
-        let m = automaton_number(line);
-        let automaton = automaton_at(numbers, m);
-        let given = row.bits[k as usize];
-        let job = Job {
-            number: Node(k),
-            line,
-            automaton,
-            given,
-            way,
-        };
-        have = ready(job, have, numbers, &*words, steps);
-        let a = judge_node(job, have.looks, log, words, &*steps, masks);
-        out[k as usize] = a.number;
-        held = a.held;
+        let number = Node(k);
+        let line = line_at(numbers, number);
+        if is_modal(line.kind) {
+            let automaton = automaton_at(numbers, line.a);
+            let given = row.bits[k as usize];
+            let job = Job {
+                number,
+                line,
+                automaton,
+                given,
+                way,
+            };
+            let now = ready(job, have, numbers, &*words, steps);
+            let a = judge_modal(job, now.looks, words, &*steps, masks);
+            out[k as usize] = a.number;
+            held = a.held;
+            have = Some(now);
+        } else {
+            held = judge_plain(line, number, log, words);
+        }
     }
     CoreAnswer {
         row: Row { bits: out },
         held,
     }
-}
-
-// The automaton of a D or B line; 0 for another.
-pub(crate) fn automaton_number(line: NodeLine) -> u8
-    ensures { (modal_kind line.kind ≡ true → result ≡ line.a) × (modal_kind line.kind ≡ false → result ≡ 0) }
-{
-    if is_modal(line.kind) { line.a } else { 0 }
 }

@@ -8,16 +8,15 @@ ghost use Rattle.aldlf.specs.declared.Table.{Table};
 ghost use Rattle.aldlf.specs.declared.Row.{Row};
 ghost use Rattle.reach.specs.Marks.{at, paired, EdgesFit};
 ghost use Rattle.reach.specs.Columns.{Placed};
-ghost use Rattle.judge.specs.Nodes.{modal_kind, says_now, PlainFits, Added, ModalFits, ModalDone, Known, NodeDone, cut_of, Stepped, Kept, Ready};
+ghost use Rattle.judge.specs.Nodes.{modal_kind, says_now, PlainFits, Added, ModalFits, ModalDone, Known, Stepped, Kept, Ready};
 
 use super::lines::plain_line;
 use super::rows::{facing_mask, row_number};
 use aldlf::{Automaton, Node, NodeLine, Way};
 use reach::Goal;
-use stands::lent::is_modal;
 
-// A node to judge: its number and line, the automaton that its line names if it is a D or B, its number in the row that is
-// given, and the way that parts are cut.
+// A D or B to judge: its number and line, the automaton that its line names, its number in the row that is given, and the way
+// that parts are cut.
 #[derive(Clone, Copy)]
 pub(crate) struct Job {
     pub(crate) number: Node,
@@ -34,62 +33,41 @@ pub(crate) struct NodeAnswer {
     pub(crate) held: usize,
 }
 
-// The automaton whose steps are at hand, 16 for none, and which ways its edges go.
-// An Option is no plainer: `judge_node` takes the ways for every line, so where no steps are at hand the ways would need a stand-in.
+// The steps at hand: the automaton that they are of, and which ways its edges go.
 #[derive(Clone, Copy)]
 pub(crate) struct Have {
     pub(crate) automaton: u8,
     pub(crate) looks: u16,
 }
 
-// The steps made ready for a node: where it is a D or B of another automaton than the one they are of, they are filled anew.
-pub(crate) fn ready(job: Job, have: Have, edges: &[u32], words: &[u64], steps: &mut [u16]) -> Have
+// The steps made ready for a D or B: where none are at hand, or those of another automaton, they are filled anew.
+pub(crate) fn ready(
+    job: Job,
+    have: Option<Have>,
+    edges: &[u32],
+    words: &[u64],
+    steps: &mut [u16],
+) -> Have
+    requires modal { modal_kind job.line.kind ≡ true }
     requires by_index { (t : Table) × (row : Row) × (log : List ℕ) × Known t row job log edges.now (paired words.now) }
     requires steps_len { (length steps.old ≡ 49 * length (paired words.now)) × (length (paired words.now) ≤ entry_limit) }
     ensures { (t : Table) (row : Row) (log : List ℕ) → Known t row job log edges.now (paired words.now)
         → Kept t edges.now (paired words.now) job.number.0 have steps.old → Ready t job edges.now (paired words.now) result steps.new }
 {
-    let m = job.line.a;
-    if !is_modal(job.line.kind) {
-        return have;
-    }
-    if m == have.automaton {
-        return have;
+    let automaton = job.line.a;
+    if let Some(have) = have {
+        if have.automaton == automaton {
+            return have;
+        }
     }
     let first = job.automaton.first as usize;
     let last = first + (job.automaton.count as usize);
     let looks = reach::filling::fill(&edges[first..last], words, steps);
-    Have {
-        automaton: m,
-        looks,
-    }
-}
-
-// The node judged from the words of the nodes before it.
-pub(crate) fn judge_node(
-    job: Job,
-    looks: u16,
-    log: &[u32],
-    words: &mut [u64],
-    steps: &[u16],
-    masks: &mut [u16],
-) -> NodeAnswer
-    requires by_index { (t : Table) × (row : Row) × (edges : List ℕ) × Known t row job log.now edges (paired words.old) }
-    requires placed { modal_kind job.line.kind ≡ true → Placed (length (paired words.old)) steps.now }
-    requires masks_len { (length masks.old ≡ length log.now) × (length log.now ≤ entry_limit) }
-    ensures { (t : Table) (row : Row) (edges : List ℕ) → Known t row job log.now edges (paired words.old)
-        → (modal_kind job.line.kind ≡ true → Stepped (cut_of job.automaton edges) (paired words.old) looks steps.now) → NodeDone t row job log.now (paired words.new) result }
-{
-    let line = job.line;
-    if !is_modal(line.kind) {
-        let held = judge_plain(line, job.number, log, words);
-        return NodeAnswer { number: 0, held };
-    }
-    judge_modal(job, looks, words, steps, masks)
+    Have { automaton, looks }
 }
 
 // A line that is no D or B: its bits, and how many of them it set.
-fn judge_plain(line: NodeLine, number: Node, log: &[u32], words: &mut [u64]) -> usize
+pub(crate) fn judge_plain(line: NodeLine, number: Node, log: &[u32], words: &mut [u64]) -> usize
     requires plain_fits { PlainFits line }
     requires number_lt_node_limit { (number.0 < node_limit) × (length (paired words.old) ≡ length log.now) × ((i : ℕ) → i < length (paired words.old) → at (paired words.old) i < 2 ^ number.0) }
     ensures { Added number.0 (λ i. says_now (line_of line.kind line.a line.b) (at log.now i) (at (paired words.old) i))
@@ -105,7 +83,7 @@ fn judge_plain(line: NodeLine, number: Node, log: &[u32], words: &mut [u64]) -> 
 }
 
 // A D or B line, by the steps of its automaton.
-fn judge_modal(
+pub(crate) fn judge_modal(
     job: Job,
     looks: u16,
     words: &mut [u64],

@@ -1,4 +1,4 @@
--- What the end of a path does to the counts, the stack and the table's edges, by cases on whether a limit is passed.
+-- What the end of a path does to the counts, the stack and the table's edges, where there is room and where there is none.
 use Prim.Native.Nat.{ℕ, ◌+◌, ◌-◌, ◌^◌, ◌≤◌, ◌<◌}
 use mathlib.Core.Path.{◌≡◌, refl, ap, sym, ◌∙◌}
 use mathlib.Core.Bool.{Bool, true, false, ◌&&◌}
@@ -8,6 +8,7 @@ use lib.Dec.{ltb, leb}
 use lib.ListN.{length, take, drop, set}
 use lib.Seq.{sets, take-take, length-sets}
 use borrow.Author.Tests.{ne_eqb, ltb-true, leb-true}
+use Rattle.std.specs.Prelude.{Some, None}
 use Rattle.aldlf.specs.Constants.{automaton_limit, state_limit, edge_limit}
 use Rattle.aldlf.specs.declared.NodeLine.{NodeLine}
 use Rattle.aldlf.specs.declared.Edge.{Edge}
@@ -18,7 +19,7 @@ use Rattle.making.specs.declared.stack.Kept.{Kept}
 use Rattle.making.specs.declared.counts.Counts.{Counts}
 use Rattle.making.specs.Work.{over, live, automaton_of, mark_kept, room_for, with_outline, emitted}
 use Rattle.making.specs.Run.{bench, last_of, rest_of, letter_of, emitted_on}
-use Rattle.making.specs.Numbers.{kept_of, edges_in, table_in, outline_in, made_of, killed_in, room_in, automaton_in, resumed_in, Sized, PathEnded}
+use Rattle.making.specs.Numbers.{kept_of, edges_in, table_in, outline_in, work_in, bench_in, room_in, automaton_in, resumed_in, Sized, PathEnded}
 use Rattle.making.proofs.Lists.{map-take, map-drop, map_sets, drop-take, first_length}
 
 pub letter_d : (k : ℕ) → k ≡ 62 → 68 ≡ letter_of k
@@ -80,41 +81,32 @@ module _ (c : Counts) (xs : List ℕ) (long : length xs ≡ edge_limit) (s : Siz
         let r = room_same ns ms (edges_in es) ∙ room in
         rw (r, own_length h, take-take c.base c.links (edges_in xs) h, k)
 
-    emit_yes : (b : Bool) (op : ℕ) (st su : List ℕ) → f ≡ last_of (kept_of st c.top) → kept_of su m ≡ mark_kept (letter_of op) c.automata ∷ rest_of (kept_of st c.top) → (ns : List NodeLine) (ms : List Automaton)
-        → bench (made_of b (table_in (resumed_in f m c) ns (set ms c.automata (automaton_in c)) (edges_in es')) (outline_in (resumed_in f m c) (edges_in xs))) (kept_of su m)
-        ≡ emitted_on op (made_of b (table_in c ns ms (edges_in es)) (outline_in c (edges_in xs))) (kept_of st c.top)
+    emit_yes : (op : ℕ) (st su : List ℕ) → f ≡ last_of (kept_of st c.top) → kept_of su m ≡ mark_kept (letter_of op) c.automata ∷ rest_of (kept_of st c.top) → (ns : List NodeLine) (ms : List Automaton)
+        → bench_in (resumed_in f m c) ns (set ms c.automata (automaton_in c)) (edges_in es') (edges_in xs) su
+        ≡ emitted_on op (work_in c ns ms (edges_in es) (edges_in xs)) (kept_of st c.top)
     unfolding emitted_on automaton_of emitted
-    emit_yes true op st su e g ns ms = refl
-    emit_yes false op st su e g ns ms =
+    emit_yes op st su e g ns ms =
         let u = emit_live ns ms in
         let z : c.automata + 1 - 1 ≡ c.automata = omega arith in
         rw (← e, u, z, g)
 
     pub path_ended : (r : Counts) (x : Automaton) (op : ℕ) (st su : List ℕ) → r ≡ resumed_in f m c → x ≡ automaton_in c → f ≡ last_of (kept_of st c.top)
-        → kept_of su m ≡ mark_kept (letter_of op) c.automata ∷ rest_of (kept_of st c.top) → m ≤ c.top + 1 → PathEnded (emitted_on op) c r x xs st su es es'
+        → kept_of su m ≡ mark_kept (letter_of op) c.automata ∷ rest_of (kept_of st c.top) → m ≤ c.top + 1 → PathEnded (emitted_on op) c (Some (record { counts = r; automaton = x })) xs st su es es'
     path_ended r x op st su e h i j k =
         let o = room_is c room in
         rw (e, h)
         (record {
-          work = λ ns ms. emit_yes c.over op st su i j ns ms;
+          work = λ ns ms. emit_yes op st su i j ns ms;
           top = k;
           sized = omega arith;
-          room = λ z. o.automata;
+          room = o.automata;
           long = ap length moved ∙ length-sets es c.edges (take (c.links - c.base) (drop c.base xs));
         })
 
-  emit_no : (b : Bool) (op : ℕ) (s₀ : List Kept) → room_in c ≡ false → (ns : List NodeLine) (ms : List Automaton) (es : List Edge) → bench over s₀ ≡ emitted_on op (made_of b (table_in c ns ms es) (outline_in c (edges_in xs))) s₀
+  emit_no : (op : ℕ) (s₀ : List Kept) → room_in c ≡ false → (ns : List NodeLine) (ms : List Automaton) (es : List Edge) → bench over s₀ ≡ emitted_on op (work_in c ns ms es (edges_in xs)) s₀
   unfolding emitted_on emitted
-  emit_no true op s₀ h ns ms es = refl
-  emit_no false op s₀ h ns ms es = rw (room_same ns ms es ∙ h)
+  emit_no op s₀ h ns ms es = rw (room_same ns ms es ∙ h)
 
-  pub path_refused : (r : Counts) (x : Automaton) (b : Bool) (op : ℕ) (st es : List ℕ) → r ≡ killed_in c → b ≡ room_in c → b ≡ false → PathEnded (emitted_on op) c r x xs st st es es
-  path_refused r x b op st es e f h =
-      rw e
-      (record {
-        work = λ ns ms. emit_no c.over op (kept_of st c.top) (sym f ∙ h) ns ms (edges_in es);
-        top = omega arith;
-        sized = s;
-        room = λ (z : true ≡ false). absurd (let y : ◌≡◌ {A = ℕ} 0 1 = cc in omega arith);
-        long = refl;
-      })
+  pub path_refused : (b : Bool) (op : ℕ) (st es : List ℕ) → b ≡ room_in c → b ≡ false → PathEnded (emitted_on op) c None xs st st es es
+  path_refused b op st es f h =
+      record { work = λ ns ms. emit_no op (kept_of st c.top) (sym f ∙ h) ns ms (edges_in es); top = tt; sized = tt; room = tt; long = refl }

@@ -1,5 +1,5 @@
 -- What the code's counts and lent numbers stand for, and what its functions promise about them.
-use Rattle.std.specs.Prelude.{ℕ, zero, suc, ◌+◌, ◌-◌, ◌^◌, ◌≤◌, ◌<◌, ◌≡◌, Bool, true, false, ◌&&◌, ltb, leb, List, [], ◌∷◌, map, length, get_or, take, set}
+use Rattle.std.specs.Prelude.{ℕ, zero, suc, ◌+◌, ◌-◌, ◌^◌, ◌≤◌, ◌<◌, ◌≡◌, Bool, ◌&&◌, Option, Some, None, IfSome, ltb, leb, List, [], ◌∷◌, map, length, get_or, take, set}
 use Rattle.aldlf.specs.Constants.{automaton_limit, state_limit, edge_limit}
 use Rattle.aldlf.specs.declared.State.{State}
 use Rattle.aldlf.specs.declared.NodeLine.{NodeLine}
@@ -9,7 +9,8 @@ use Rattle.aldlf.specs.declared.Table.{Table}
 use Rattle.packing.specs.Numbers.{edge_in, line_in}
 use Rattle.making.specs.declared.stack.Kept.{Kept}
 use Rattle.making.specs.declared.counts.Counts.{Counts}
-use Rattle.making.specs.Work.{Outline, Made, over, live}
+use Rattle.making.specs.declared.ending.Ended.{Ended}
+use Rattle.making.specs.Work.{Outline, Made, over, live, linked}
 use Rattle.making.specs.Run.{Bench, bench}
 
 -- The four bytes in a number, in the places of an edge's.
@@ -35,34 +36,28 @@ table_in c ns ms es = record { nodes = ns; automata = ms; edges = es; used = rec
 abbrev pub outline_in : Counts → List Edge → Outline
 outline_in c ks = record { states = c.states; base = c.base; links = take c.links ks; entry = c.entry.0; exit = c.exit.0 }
 
-abbrev pub made_of : Bool → Table → Outline → Made
-made_of true t o = over
-made_of false t o = live t o
-
--- What is made, by the counts.
+-- What is made, by the counts; and by an answer, where no counts mean that a limit is passed.
 abbrev pub work_in : Counts → List NodeLine → List Automaton → List Edge → List Edge → Made
-work_in c ns ms es ks = made_of c.over (table_in c ns ms es) (outline_in c ks)
+work_in c ns ms es ks = live (table_in c ns ms es) (outline_in c ks)
+
+abbrev pub work_by : Option Counts → List NodeLine → List Automaton → List Edge → List Edge → Made
+work_by None ns ms es ks = over
+work_by (Some c) ns ms es ks = work_in c ns ms es ks
 
 -- What is made and what is kept.
 abbrev pub bench_in : Counts → List NodeLine → List Automaton → List Edge → List Edge → List ℕ → Bench
 bench_in c ns ms es ks st = bench (work_in c ns ms es ks) (kept_of st c.top)
 
--- The counts with a limit passed; with other states and ends.
-abbrev pub killed_in : Counts → Counts
-killed_in c =
-    record {
-      nodes = c.nodes;
-      automata = c.automata;
-      edges = c.edges;
-      links = c.links;
-      states = c.states;
-      base = c.base;
-      entry = c.entry;
-      exit = c.exit;
-      top = c.top;
-      over = true;
-    }
+abbrev pub bench_by : Option Counts → List NodeLine → List Automaton → List Edge → List Edge → List ℕ → Bench
+bench_by None ns ms es ks st = bench over []
+bench_by (Some c) ns ms es ks st = bench_in c ns ms es ks st
 
+-- The same where a path ends and its automaton is put at place k.
+abbrev pub bench_ended : Option Ended → ℕ → List NodeLine → List Automaton → List Edge → List Edge → List ℕ → Bench
+bench_ended None k ns ms es ks st = bench over []
+bench_ended (Some e) k ns ms es ks st = bench_in e.counts ns (set ms k e.automaton) es ks st
+
+-- The counts with other states and ends.
 abbrev pub ended_in : ℕ → State → State → Counts → Counts
 ended_in s a b c =
     record {
@@ -75,7 +70,6 @@ ended_in s a b c =
       entry = a;
       exit = b;
       top = c.top;
-      over = c.over;
     }
 
 -- The counts with n numbers on the stack.
@@ -91,7 +85,6 @@ topped_in n c =
       entry = c.entry;
       exit = c.exit;
       top = n;
-      over = c.over;
     }
 
 -- The counts before node 0.
@@ -107,7 +100,6 @@ no_counts =
       entry = record { 0 = 0 };
       exit = record { 0 = 0 };
       top = 0;
-      over = false;
     }
 
 -- Whether the path in hand can end, and the automaton that is made of it then.
@@ -130,7 +122,6 @@ resumed_in f n c =
       entry = record { 0 = f.a };
       exit = record { 0 = f.b };
       top = n;
-      over = c.over;
     }
 
 -- The edges of the table and the open links are within the limit.
@@ -138,44 +129,49 @@ abbrev pub Sized : Counts → Type 0
 Sized c = c.edges + c.links ≤ edge_limit
 
 -- A function that changes only the lines, by f.
-pub record Lined (f : Made → Made) (c r : Counts) (before after : List ℕ) : Type 0 where
-  pub work : (ms : List Automaton) (es ks : List Edge) → work_in r (lines_in after) ms es ks ≡ f (work_in c (lines_in before) ms es ks)
-  pub top : r.top ≡ c.top
-  pub sized : Sized c → Sized r
+pub record Lined (f : Made → Made) (c : Counts) (r : Option Counts) (before after : List ℕ) : Type 0 where
+  pub work : (ms : List Automaton) (es ks : List Edge) → work_by r (lines_in after) ms es ks ≡ f (work_in c (lines_in before) ms es ks)
+  pub top : IfSome r (λ x. x.top ≡ c.top)
+  pub sized : IfSome r (λ x. Sized c → Sized x)
   pub long : length after ≡ length before
 
+-- Links put one after the other.
+unfoldable pub all_linked : List Edge → Made → Made
+all_linked [] w = w
+all_linked (e ∷ es) w = all_linked es (linked e w)
+
 -- A function that changes only the links, by f.
-pub record Drawn (f : Made → Made) (c r : Counts) (before after : List ℕ) : Type 0 where
-  pub work : (ns : List NodeLine) (ms : List Automaton) (es : List Edge) → work_in r ns ms es (edges_in after) ≡ f (work_in c ns ms es (edges_in before))
-  pub top : r.top ≡ c.top
-  pub sized : Sized r
+pub record Drawn (f : Made → Made) (c : Counts) (r : Option Counts) (before after : List ℕ) : Type 0 where
+  pub work : (ns : List NodeLine) (ms : List Automaton) (es : List Edge) → work_by r ns ms es (edges_in after) ≡ f (work_in c ns ms es (edges_in before))
+  pub top : IfSome r (λ x. x.top ≡ c.top)
+  pub sized : IfSome r (λ x. Sized x)
   pub long : length after ≡ edge_limit
 
 -- Instructions that make a node, on a stack: f says what becomes of what is made and of what is kept.
-pub record NodeMade (f : Made → List Kept → Bench) (c r : Counts) (stack before after : List ℕ) : Type 0 where
-  pub work : (ms : List Automaton) (es ks : List Edge) → bench_in r (lines_in after) ms es ks stack ≡ f (work_in c (lines_in before) ms es ks) (kept_of stack c.top)
-  pub top : r.top ≤ c.top
-  pub sized : Sized c → Sized r
+pub record NodeMade (f : Made → List Kept → Bench) (c : Counts) (r : Option Counts) (stack before after : List ℕ) : Type 0 where
+  pub work : (ms : List Automaton) (es ks : List Edge) → bench_by r (lines_in after) ms es ks stack ≡ f (work_in c (lines_in before) ms es ks) (kept_of stack c.top)
+  pub top : IfSome r (λ x. x.top ≤ c.top)
+  pub sized : IfSome r (λ x. Sized c → Sized x)
   pub long : length after ≡ length before
 
 -- Instructions that only keep something: the stack changes.
-pub record KeptMore (f : Made → List Kept → Bench) (c r : Counts) (before after : List ℕ) : Type 0 where
-  pub work : (ns : List NodeLine) (ms : List Automaton) (es ks : List Edge) → length ks ≡ edge_limit → bench_in r ns ms es ks after ≡ f (work_in c ns ms es ks) (kept_of before c.top)
-  pub top : r.top ≤ c.top + 1
-  pub sized : Sized r
+pub record KeptMore (f : Made → List Kept → Bench) (c : Counts) (r : Option Counts) (before after : List ℕ) : Type 0 where
+  pub work : (ns : List NodeLine) (ms : List Automaton) (es ks : List Edge) → length ks ≡ edge_limit → bench_by r ns ms es ks after ≡ f (work_in c ns ms es ks) (kept_of before c.top)
+  pub top : IfSome r (λ x. x.top ≤ c.top + 1)
+  pub sized : IfSome r (λ x. Sized x)
 
 -- Instructions that draw the path in hand, on a stack: the links change.
-pub record PathDrawn (f : Made → List Kept → Bench) (c r : Counts) (stack before after : List ℕ) : Type 0 where
-  pub work : (ns : List NodeLine) (ms : List Automaton) (es : List Edge) → bench_in r ns ms es (edges_in after) stack ≡ f (work_in c ns ms es (edges_in before)) (kept_of stack c.top)
-  pub top : r.top ≤ c.top
-  pub sized : Sized r
+pub record PathDrawn (f : Made → List Kept → Bench) (c : Counts) (r : Option Counts) (stack before after : List ℕ) : Type 0 where
+  pub work : (ns : List NodeLine) (ms : List Automaton) (es : List Edge) → bench_by r ns ms es (edges_in after) stack ≡ f (work_in c ns ms es (edges_in before)) (kept_of stack c.top)
+  pub top : IfSome r (λ x. x.top ≤ c.top)
+  pub sized : IfSome r (λ x. Sized x)
   pub long : length after ≡ edge_limit
 
 -- The path ends: the stack and the table's edges change, and an automaton is to be put at its place.
-pub record PathEnded (f : Made → List Kept → Bench) (c r : Counts) (x : Automaton) (links before after edges edges' : List ℕ) : Type 0 where
+pub record PathEnded (f : Made → List Kept → Bench) (c : Counts) (r : Option Ended) (links before after edges edges' : List ℕ) : Type 0 where
   pub work : (ns : List NodeLine) (ms : List Automaton)
-      → bench_in r ns (set ms c.automata x) (edges_in edges') (edges_in links) after ≡ f (work_in c ns ms (edges_in edges) (edges_in links)) (kept_of before c.top)
-  pub top : r.top ≤ c.top + 1
-  pub sized : Sized r
-  pub room : r.over ≡ false → c.automata < automaton_limit
+      → bench_ended r c.automata ns ms (edges_in edges') (edges_in links) after ≡ f (work_in c ns ms (edges_in edges) (edges_in links)) (kept_of before c.top)
+  pub top : IfSome r (λ x. x.counts.top ≤ c.top + 1)
+  pub sized : IfSome r (λ x. Sized x.counts)
+  pub room : IfSome r (λ x. c.automata < automaton_limit)
   pub long : length edges' ≡ length edges

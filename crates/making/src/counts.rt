@@ -1,12 +1,11 @@
 // How far the making is: the table's counts, the open links, the path in hand and the stack.
 ghost use Rattle.std.specs.Prelude.{◌≡◌, ◌-◌};
-ghost use Rattle.making.specs.Numbers.{killed_in, ended_in, topped_in};
+ghost use Rattle.making.specs.Numbers.{ended_in, topped_in};
 
 use aldlf::State;
 
 // `links` edges of open paths, outer ones first, of which `base` belong to outer paths; `states` of the path in hand, and where its part made last starts and ends.
-// `top` numbers are on the stack. `over`: a sheet limit is passed, and the rest means nothing.
-// A field and no option of counts: `work_in`, `Lined`, `Drawn` and `PathEnded` of specs/Numbers.antt speak of it.
+// `top` numbers are on the stack.
 #[derive(Clone, Copy, Default)]
 pub(crate) struct Counts {
     pub(crate) nodes: u8,
@@ -18,17 +17,9 @@ pub(crate) struct Counts {
     pub(crate) entry: State,
     pub(crate) exit: State,
     pub(crate) top: usize,
-    pub(crate) over: bool,
 }
 
 impl Counts {
-    // A limit is passed.
-    pub(crate) fn killed(self) -> Counts
-        ensures { result ≡ killed_in self }
-    {
-        Counts { over: true, ..self }
-    }
-
     // The path in hand with its states, and the ends of the part made last.
     pub(crate) fn with_ends(self, states: u8, entry: State, exit: State) -> Counts
         ensures { result ≡ ended_in states entry exit self }

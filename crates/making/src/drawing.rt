@@ -2,9 +2,9 @@
 ghost use Rattle.std.specs.Prelude.{◌≡◌, ◌≤◌, ◌<◌, length};
 ghost use Rattle.aldlf.specs.Constants.{edge_limit};
 ghost use Rattle.formula.specs.Numbering.{link};
-ghost use Rattle.making.specs.Work.{linked, four_linked, between, step_drawn, seq_drawn, alt_drawn, star_drawn};
+ghost use Rattle.making.specs.Work.{linked, between, step_drawn, seq_drawn, alt_drawn, star_drawn};
 ghost use Rattle.making.specs.Run.{is_step, draws, dir_of, drawn_on};
-ghost use Rattle.making.specs.Numbers.{Sized, Drawn, PathDrawn};
+ghost use Rattle.making.specs.Numbers.{all_linked, Sized, Drawn, PathDrawn};
 
 use super::counts::Counts;
 use super::keeping::link_room;
@@ -50,44 +50,35 @@ fn link_of(s: State, t: State) -> Edge
 }
 
 // One link more, where there is room.
-fn put_link(links: &mut [u32; aldlf::EDGES], c: Counts, e: Edge) -> Counts
+fn put_link(links: &mut [u32; aldlf::EDGES], c: Counts, e: Edge) -> Option<Counts>
     requires { Sized c × (length links.old ≡ edge_limit) }
     ensures { Drawn (linked e) c result links.old links.new }
 {
     if link_room(c) {
         let n = c.links as usize;
         links[n] = packed_edge(e);
-        return Counts {
+        return Some(Counts {
             links: c.links + 1,
             ..c
-        };
+        });
     }
-    c.killed()
+    None
 }
 
-// Four links, in the order in which they are put.
-#[derive(Clone, Copy)]
-pub(crate) struct Four {
-    pub(crate) e: Edge,
-    pub(crate) f: Edge,
-    pub(crate) g: Edge,
-    pub(crate) h: Edge,
-}
-
-// The links are put one after the other. The part made last is between the states s and s + 1 then.
-fn put_four(links: &mut [u32; aldlf::EDGES], c: Counts, four: Four, s: u8) -> Counts
-    requires { Sized c × (length links.old ≡ edge_limit) × (s < 15) }
-    ensures { Drawn (λ w. between s (four_linked four.e four.f four.g four.h w)) c result links.old links.new }
+// Four links are put one after the other. The part made last is between the states s and s + 1 then.
+fn put_four(links: &mut [u32; aldlf::EDGES], c: Counts, four: [Edge; 4], s: u8) -> Option<Counts>
+    requires { Sized c × (length links.old ≡ edge_limit) × (s < 15) × (length four ≡ 4) }
+    ensures { Drawn (λ w. between s (all_linked four w)) c result links.old links.new }
 {
-    let x = put_link(links, c, four.e);
-    let y = put_link(links, x, four.f);
-    let z = put_link(links, y, four.g);
-    let w = put_link(links, z, four.h);
-    w.with_ends(s + 2, State(s), State(s + 1))
+    let mut x = c;
+    for e in four {
+        x = put_link(links, x, e)?;
+    }
+    Some(x.with_ends(s + 2, State(s), State(s + 1)))
 }
 
 // A step: two states, and one edge that tests the last node.
-fn step(links: &mut [u32; aldlf::EDGES], c: Counts, dir: u8) -> Counts
+fn step(links: &mut [u32; aldlf::EDGES], c: Counts, dir: u8) -> Option<Counts>
     requires { Sized c × (length links.old ≡ edge_limit) }
     ensures { Drawn (step_drawn dir) c result links.old links.new }
 {
@@ -99,24 +90,24 @@ fn step(links: &mut [u32; aldlf::EDGES], c: Counts, dir: u8) -> Counts
             test: Node(c.newest()),
             to: State(s + 1),
         };
-        let x = put_link(links, c, e);
-        return x.with_ends(s + 2, State(s), State(s + 1));
+        let x = put_link(links, c, e)?;
+        return Some(x.with_ends(s + 2, State(s), State(s + 1)));
     }
-    c.killed()
+    None
 }
 
 // `;`: the end of the left side is joined to the start of the part made last.
-fn seq(links: &mut [u32; aldlf::EDGES], c: Counts, left: Kept) -> Counts
+fn seq(links: &mut [u32; aldlf::EDGES], c: Counts, left: Kept) -> Option<Counts>
     requires { Sized c × (length links.old ≡ edge_limit) }
     ensures { Drawn (seq_drawn left) c result links.old links.new }
 {
     let e = link_of(State(left.b), c.entry);
-    let x = put_link(links, c, e);
-    x.with_ends(c.states, State(left.a), c.exit)
+    let x = put_link(links, c, e)?;
+    Some(x.with_ends(c.states, State(left.a), c.exit))
 }
 
 // `+`: a new start before both sides, a new end behind both.
-fn alt(links: &mut [u32; aldlf::EDGES], c: Counts, left: Kept) -> Counts
+fn alt(links: &mut [u32; aldlf::EDGES], c: Counts, left: Kept) -> Option<Counts>
     requires { Sized c × (length links.old ≡ edge_limit) }
     ensures { Drawn (alt_drawn left) c result links.old links.new }
 {
@@ -128,13 +119,13 @@ fn alt(links: &mut [u32; aldlf::EDGES], c: Counts, left: Kept) -> Counts
         let f = link_of(start, c.entry);
         let g = link_of(State(left.b), end);
         let h = link_of(c.exit, end);
-        return put_four(links, c, Four { e, f, g, h }, s);
+        return put_four(links, c, [e, f, g, h], s);
     }
-    c.killed()
+    None
 }
 
 // `*`: a new start before the part and a new end behind it, from the part's end back to its start, and past it.
-fn star(links: &mut [u32; aldlf::EDGES], c: Counts) -> Counts
+fn star(links: &mut [u32; aldlf::EDGES], c: Counts) -> Option<Counts>
     requires { Sized c × (length links.old ≡ edge_limit) }
     ensures { Drawn star_drawn c result links.old links.new }
 {
@@ -146,13 +137,18 @@ fn star(links: &mut [u32; aldlf::EDGES], c: Counts) -> Counts
         let f = link_of(c.exit, c.entry);
         let g = link_of(c.exit, end);
         let h = link_of(start, end);
-        return put_four(links, c, Four { e, f, g, h }, s);
+        return put_four(links, c, [e, f, g, h], s);
     }
-    c.killed()
+    None
 }
 
 // An instruction that draws the path in hand.
-pub(crate) fn draw(op: u8, stack: &[u32], links: &mut [u32; aldlf::EDGES], c: Counts) -> Counts
+pub(crate) fn draw(
+    op: u8,
+    stack: &[u32],
+    links: &mut [u32; aldlf::EDGES],
+    c: Counts,
+) -> Option<Counts>
     requires { (c.top ≤ length stack.now) × Sized c × (length links.old ≡ edge_limit) }
     ensures { PathDrawn (drawn_on op) c result stack.now links.old links.new }
 {

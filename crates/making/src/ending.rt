@@ -9,7 +9,6 @@ use super::counts::Counts;
 use super::stack::{Kept, below, last_kept, push};
 use aldlf::{Automaton, State};
 use sheet::build::power;
-use sheet::empty::no_automaton;
 
 // Whether an instruction ends a path.
 pub(crate) fn ends_path(op: u8) -> bool
@@ -95,9 +94,9 @@ pub(crate) fn end_path(
     links: &[u32; aldlf::EDGES],
     edges: &mut [u32; aldlf::EDGES],
     c: Counts,
-) -> Ended
+) -> Option<Ended>
     requires { (c.top < length stack.old) × Sized c × (length links.now ≡ edge_limit) }
-    ensures { PathEnded (emitted_on op) c result.counts result.automaton links.now stack.old stack.new edges.old edges.new }
+    ensures { PathEnded (emitted_on op) c result links.now stack.old stack.new edges.old edges.new }
 {
     if has_room(c) {
         let top = c.top;
@@ -120,9 +119,7 @@ pub(crate) fn end_path(
         push(stack, rest, mark);
         let automaton = automaton_of(c);
         let counts = resumed(c, frame, rest + 1);
-        return Ended { counts, automaton };
+        return Some(Ended { counts, automaton });
     }
-    let counts = c.killed();
-    let automaton = no_automaton();
-    Ended { counts, automaton }
+    None
 }

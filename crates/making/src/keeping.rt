@@ -1,5 +1,5 @@
 // The instructions that keep something: `,`, `!`, `:`, and `{`, where a path begins.
-ghost use Rattle.std.specs.Prelude.{◌≡◌, false, List, ◌+◌, ◌<◌, ltb, length};
+ghost use Rattle.std.specs.Prelude.{◌≡◌, Some, List, ◌+◌, ◌<◌, ltb, length};
 ghost use Rattle.aldlf.specs.Constants.{edge_limit};
 ghost use Rattle.aldlf.specs.declared.NodeLine.{NodeLine};
 ghost use Rattle.aldlf.specs.declared.Automaton.{Automaton};
@@ -20,7 +20,6 @@ pub(crate) fn keeps_something(op: u8) -> bool
 
 // What `,`, `!` and `:` keep: the last node, a negation, the last part of the path.
 fn kept_by(op: u8, c: Counts) -> Kept
-    requires { c.over ≡ false }
     ensures { (ns : List NodeLine) (ms : List Automaton) (es ks : List Edge) → result ≡ kept_by op (work_in c ns ms es ks) }
 {
     match op {
@@ -47,8 +46,8 @@ fn kept_by(op: u8, c: Counts) -> Kept
 
 // What it keeps is on the stack then.
 pub(crate) fn keep(op: u8, stack: &mut [u32], c: Counts) -> Counts
-    requires { (c.over ≡ false) × (c.top < length stack.old) × Sized c }
-    ensures { KeptMore (kept_on op) c result stack.old stack.new }
+    requires { (c.top < length stack.old) × Sized c }
+    ensures { KeptMore (kept_on op) c (Some result) stack.old stack.new }
 {
     let top = c.top;
     let k = kept_by(op, c);
@@ -65,8 +64,8 @@ pub(crate) fn link_room(c: Counts) -> bool
 }
 
 // A path begins, and the outer one is put aside.
-pub(crate) fn begin(stack: &mut [u32], c: Counts) -> Counts
-    requires { (c.over ≡ false) × (c.top < length stack.old) × Sized c }
+pub(crate) fn begin(stack: &mut [u32], c: Counts) -> Option<Counts>
+    requires { (c.top < length stack.old) × Sized c }
     ensures { KeptMore begun_on c result stack.old stack.new }
 {
     if link_room(c) {
@@ -78,14 +77,14 @@ pub(crate) fn begin(stack: &mut [u32], c: Counts) -> Counts
             d: c.base,
         };
         push(stack, top, frame);
-        return Counts {
+        return Some(Counts {
             states: 0,
             base: c.links as u8,
             entry: State(0),
             exit: State(0),
             top: top + 1,
             ..c
-        };
+        });
     }
-    c.killed()
+    None
 }

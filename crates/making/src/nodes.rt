@@ -17,36 +17,36 @@ pub(crate) fn makes_node(op: u8) -> bool
 }
 
 // One node line more, where there is room.
-pub(crate) fn put_line(lines: &mut [u32; aldlf::NODES], c: Counts, x: NodeLine) -> Counts
+pub(crate) fn put_line(lines: &mut [u32; aldlf::NODES], c: Counts, x: NodeLine) -> Option<Counts>
     ensures { Lined (grown x.kind x.a x.b) c result lines.old lines.new }
 {
     let n = c.nodes as usize;
     if n < aldlf::NODES {
         lines[n] = packed_line(x);
-        return Counts {
+        return Some(Counts {
             nodes: c.nodes + 1,
             ..c
-        };
+        });
     }
-    c.killed()
+    None
 }
 
 // The node of a fact, or of `true`.
-fn put_leaf(lines: &mut [u32; aldlf::NODES], c: Counts, kind: u8, a: u8) -> Counts
+fn put_leaf(lines: &mut [u32; aldlf::NODES], c: Counts, kind: u8, a: u8) -> Option<Counts>
     ensures { Lined (grown kind a 0) c result lines.old lines.new }
 {
     put_line(lines, c, NodeLine { kind, a, b: 0 })
 }
 
 // The node of a letter on what was kept and the last node.
-fn put_pair(lines: &mut [u32; aldlf::NODES], c: Counts, kind: u8, a: u8, b: Node) -> Counts
+fn put_pair(lines: &mut [u32; aldlf::NODES], c: Counts, kind: u8, a: u8, b: Node) -> Option<Counts>
     ensures { Lined (grown kind a b.0) c result lines.old lines.new }
 {
     put_line(lines, c, NodeLine { kind, a, b: b.0 })
 }
 
 // The node of a mark on the last node: N takes only that one.
-fn put_under(lines: &mut [u32; aldlf::NODES], c: Counts, k: Kept) -> Counts
+fn put_under(lines: &mut [u32; aldlf::NODES], c: Counts, k: Kept) -> Option<Counts>
     ensures { Lined (under k.a k.b) c result lines.old lines.new }
 {
     let n = c.newest();
@@ -57,7 +57,12 @@ fn put_under(lines: &mut [u32; aldlf::NODES], c: Counts, k: Kept) -> Counts
 }
 
 // An instruction that makes a node.
-pub(crate) fn make_node(op: u8, stack: &[u32], lines: &mut [u32; aldlf::NODES], c: Counts) -> Counts
+pub(crate) fn make_node(
+    op: u8,
+    stack: &[u32],
+    lines: &mut [u32; aldlf::NODES],
+    c: Counts,
+) -> Option<Counts>
     requires { c.top ≤ length stack.now }
     ensures { NodeMade (node_on op) c result stack.now lines.old lines.new }
 {

@@ -5,7 +5,7 @@ ghost use Rattle.aldlf.specs.Constants.{node_limit, automaton_limit, edge_limit,
 ghost use Rattle.aldlf.specs.Sheet.{no_automaton};
 ghost use Rattle.making.specs.Work.{grown};
 ghost use Rattle.making.specs.Run.{run, first_bench, making_of, making_by};
-ghost use Rattle.making.specs.Numbers.{lines_in, edges_in, work_in, no_counts, Lined};
+ghost use Rattle.making.specs.Numbers.{lines_in, edges_in, table_in, no_counts, Lined};
 
 use super::counts::Counts;
 use super::drawing::{draw, draws_path};
@@ -14,10 +14,10 @@ use super::keeping::{begin, keep, keeps_something};
 use super::nodes::{make_node, makes_node, put_line};
 use aldlf::{Automaton, Edge, NodeLine, Table, Used};
 use packing::pieces::{edge_in, line_in};
-use sheet::empty::{no_automaton, no_edge, no_line};
+use sheet::empty::no_automaton;
 
 // The counts with node 0, which is T.
-fn first_counts(lines: &mut [u32; aldlf::NODES]) -> Counts
+fn first_counts(lines: &mut [u32; aldlf::NODES]) -> Option<Counts>
     ensures { Lined (grown letter_t 0 0) no_counts result lines.old lines.new }
 {
     let x = NodeLine {
@@ -40,23 +40,15 @@ fn lines_of(lines: &[u32; aldlf::NODES]) -> [NodeLine; aldlf::NODES]
     requires { length lines.now ≡ node_limit }
     ensures { result ≡ lines_in lines.now }
 {
-    let mut r = [no_line(); aldlf::NODES];
-    for (i, &p) in lines.iter().enumerate() {
-        r[i] = line_in(p);
-    }
-    r
+    lines.map(line_in)
 }
 
-// The edges in the numbers: a loop like that of the lines, for a function of both would take the unpacking as a closure and say its contract again in every clause.
+// The edges in the numbers.
 fn edges_of(edges: &[u32; aldlf::EDGES]) -> [Edge; aldlf::EDGES]
     requires { length edges.now ≡ edge_limit }
     ensures { result ≡ edges_in edges.now }
 {
-    let mut r = [no_edge(); aldlf::EDGES];
-    for (i, &p) in edges.iter().enumerate() {
-        r[i] = edge_in(p);
-    }
-    r
+    edges.map(edge_in)
 }
 
 // What the instructions came to.
@@ -65,14 +57,11 @@ fn finished(
     lines: &[u32; aldlf::NODES],
     automata: [Automaton; aldlf::AUTOMATA],
     edges: &[u32; aldlf::EDGES],
-) -> Option<Table>
+) -> Table
     requires { (length lines.now ≡ node_limit) × (length edges.now ≡ edge_limit) }
-    ensures { (ks : List Edge) → making_by result ≡ making_of (work_in c (lines_in lines.now) automata (edges_in edges.now) ks) }
+    ensures { result ≡ table_in c (lines_in lines.now) automata (edges_in edges.now) }
 {
-    if c.over {
-        return None;
-    }
-    Some(Table {
+    Table {
         nodes: lines_of(lines),
         automata,
         edges: edges_of(edges),
@@ -81,7 +70,7 @@ fn finished(
             automata: c.automata,
             edges: c.edges,
         },
-    })
+    }
 }
 
 // What the instructions come to, on a stack with a place for each of them: each keeps at most one thing.
@@ -94,29 +83,23 @@ pub(crate) fn run_code(code: &[u8], stack: &mut [u32]) -> Option<Table>
     let mut links = [0u32; aldlf::EDGES];
     let mut edges = [0u32; aldlf::EDGES];
     let mut automata = no_automata();
-    let mut c = first_counts(&mut lines);
+    let mut c = first_counts(&mut lines)?;
     // Groups of instructions, each by its own test: a `match` on patterns was tried, and what a range leaves to the later arms was not proved.
     for &op in code {
-        if c.over {
-            return None;
-        }
         if makes_node(op) {
-            c = make_node(op, stack, &mut lines, c);
+            c = make_node(op, stack, &mut lines, c)?;
         } else if keeps_something(op) {
             c = keep(op, stack, c);
         } else if op == b'{' {
-            c = begin(stack, c);
+            c = begin(stack, c)?;
         } else if draws_path(op) {
-            c = draw(op, stack, &mut links, c);
+            c = draw(op, stack, &mut links, c)?;
         } else if ends_path(op) {
             let k = c.automata as usize;
-            let x = end_path(op, stack, &links, &mut edges, c);
+            let x = end_path(op, stack, &links, &mut edges, c)?;
             c = x.counts;
-            if c.over {
-                return None;
-            }
             automata[k] = x.automaton;
         }
     }
-    finished(c, &lines, automata, &edges)
+    Some(finished(c, &lines, automata, &edges))
 }

@@ -1,7 +1,7 @@
 -- The parser's leaves as laws over plain variables: the code's answers cite them.
 use Prim.Native.Nat.{ℕ, zero, suc, ◌+◌, ◌-◌, ◌*◌, ◌≤◌, ◌<◌}
 use mathlib.Core.Path.{◌≡◌, refl, ap, sym, ◌∙◌}
-use mathlib.Core.List.{List}
+use mathlib.Core.List.{List, [], ◌∷◌}
 use mathlib.Core.Bool.{Bool, true, false, not, cond, ◌&&◌, ◌||◌}
 use mathlib.Core.Logic.{◌⊎◌, inl, inr}
 use native.Mathlib.Omega.{arith}
@@ -76,6 +76,13 @@ not_there (Some u) x v l e h t k = eqb-false u v (sym h ∙ t) (e ∙ k)
 pub not_there_ne : {r : Bool} (o : Option ℕ) (x v : ℕ) → v < 256 → unwrap_or o 256 ≡ x → r ≡ not (option_eq eqb o (Some v)) → r ≡ true → ¬ (x ≡ v)
 not_there_ne o x v l e h t = not_there o x v l e refl (not-true (option_eq eqb o (Some v)) (sym h ∙ t))
 
+-- these are bytes
+pub true_low : (i : ℕ) → get_or (114 ∷ 117 ∷ 101 ∷ []) i 0 < 256
+true_low zero = omega arith
+true_low (suc zero) = omega arith
+true_low (suc (suc zero)) = omega arith
+true_low (suc (suc (suc i))) = omega arith
+
 -- the byte at a place, or 256
 pub byte_or : (text : List ℕ) (at : ℕ) → get_or text at 256 ≡ byte text at
 byte_or text at = go (ltb at (length text)) refl
@@ -126,6 +133,25 @@ module _ (text : List ℕ) where
     pub true_4 : byte text at ≡ 114 → byte text (at + 1) ≡ 117 → byte text (at + 2) ≡ 101 → True (ok (put code_true w) (at + 3))
     unfolding true_at build
     true_4 e f h = rw (e, f, h)
+
+    -- the first i of the bytes after `t` are those of `true`
+    abbrev pub TrueTo : ℕ → Type 0
+    TrueTo i = (1 ≤ i → byte text at ≡ 114) × (2 ≤ i → byte text (at + 1) ≡ 117) × (3 ≤ i → byte text (at + 2) ≡ 101)
+
+    pub true_on : (i : ℕ) → i < 3 → TrueTo i → byte text (at + i) ≡ get_or (114 ∷ 117 ∷ 101 ∷ []) i 0 → TrueTo (i + 1)
+    true_on zero l t e = let z : at ≡ at + 0 = omega arith in (λ _. ap (λ (k : ℕ). byte text k) z ∙ e, λ h. absurd (omega arith), λ h. absurd (omega arith))
+    true_on (suc zero) l t e = (λ _. t.0 (omega arith), λ _. e, λ h. absurd (omega arith))
+    true_on (suc (suc zero)) l t e = (λ _. t.0 (omega arith), λ _. t.1 (omega arith), λ _. e)
+    true_on (suc (suc (suc i))) l t e = absurd (omega arith)
+
+    pub true_off : (i : ℕ) → i < 3 → TrueTo i → ¬ (byte text (at + i) ≡ get_or (114 ∷ 117 ∷ 101 ∷ []) i 0) → True (bad (at + i))
+    true_off zero l t n = let z : at + 0 ≡ at = omega arith in rw z (true_1 (λ h. n (ap (λ (k : ℕ). byte text k) z ∙ h)))
+    true_off (suc zero) l t n = true_2 (t.0 (omega arith)) n
+    true_off (suc (suc zero)) l t n = true_3 (t.0 (omega arith)) (t.1 (omega arith)) n
+    true_off (suc (suc (suc i))) l t n = absurd (omega arith)
+
+    pub true_all : (i : ℕ) → 3 ≤ i → TrueTo i → True (ok (put code_true w) (at + 3))
+    true_all i l t = true_4 (t.0 (omega arith)) (t.1 (omega arith)) (t.2 l)
 
     abbrev Fact : Got Work → Type 0
     Fact g = g ≡ map_got (λ (a : Formula). build a w) (fact_at text at)

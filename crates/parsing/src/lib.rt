@@ -45,10 +45,7 @@ fn finish(length: usize, p: Parse) -> Result<usize, FormulaRefusal>
     requires { place_of p ≤ formula_limit }
     ensures { (out : List ℕ) → coded_of result out ≡ finished length (got_of (seen_of p out)) }
 {
-    let p = match p {
-        Ok(p) => p,
-        Err(e) => return Err(refusal_of(e)),
-    };
+    let p = p.map_err(refusal_of)?;
     if p.at != length {
         return Err(FormulaRefusal::NoFormula(p.at as u16));
     }

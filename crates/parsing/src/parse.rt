@@ -93,23 +93,13 @@ fn step_of(text: &[u8], p: Parse, out: &mut [u8]) -> Parse
     ensures { got_of (seen_of result out.new) ≡ stepped_by text.now (got_of (seen_of p out.old)) }
 {
     let p = p?;
-    let b = byte_at(text, p.at);
-    if b == Some(b'-') {
-        let writing = write_step(p.writing, b'b', out);
-        return Ok(Parsed {
-            at: p.at + 1,
-            writing,
-        });
-    }
-    if b == Some(b'?') {
-        let writing = write_step(p.writing, b't', out);
-        return Ok(Parsed {
-            at: p.at + 1,
-            writing,
-        });
-    }
-    let writing = write_step(p.writing, b'a', out);
-    Ok(Parsed { at: p.at, writing })
+    let (code, at) = match byte_at(text, p.at) {
+        Some(b'-') => (b'b', p.at + 1),
+        Some(b'?') => (b't', p.at + 1),
+        _ => (b'a', p.at),
+    };
+    let writing = write_step(p.writing, code, out);
+    Ok(Parsed { at, writing })
 }
 
 // Operands joined by `&` and `|`, where `depth` more marks may be open, the one around this formula counted.
@@ -241,16 +231,17 @@ fn path(text: &[u8], start: usize, depth: u8, w0: Writing, out: &mut [u8]) -> Pa
 fn piece(text: &[u8], at: usize, depth: u8, w: Writing, out: &mut [u8]) -> Parse
     ensures { got_of (seen_of result out.new) ≡ map_got (λ (p : Path). build_in p (work_of w out.old)) (piece_at text.now (inner text.now depth) at) }
 {
-    let b = byte_at(text, at);
-    if b == Some(b'{') {
-        let f = masked_at(w);
-        let p = formula(text, at + 1, depth, f, out);
-        let q = close(text, p, b'}');
-        return step_of(text, q, out);
+    match byte_at(text, at) {
+        Some(b'{') => {
+            let f = masked_at(w);
+            let p = formula(text, at + 1, depth, f, out);
+            let q = close(text, p, b'}');
+            step_of(text, q, out)
+        }
+        Some(b'(') => {
+            let p = path(text, at + 1, depth, w, out);
+            close(text, p, b')')
+        }
+        _ => Err(ParseError::NoFormula(at)),
     }
-    if b == Some(b'(') {
-        let p = path(text, at + 1, depth, w, out);
-        return close(text, p, b')');
-    }
-    Err(ParseError::NoFormula(at))
 }

@@ -42,14 +42,11 @@ pub(crate) fn close(text: &[u8], p: Parse, b: u8) -> Parse
 pub(crate) fn simple(text: &[u8], at: usize, w: Writing, out: &mut [u8]) -> Parse
     ensures { got_of (seen_of result out.new) ≡ map_got (λ (a : Formula). build a (work_of w out.old)) (simple_at text.now at) }
 {
-    let b = byte_at(text, at);
-    if b == Some(b't') {
-        return truth(text, at + 1, w, out);
+    match byte_at(text, at) {
+        Some(b't') => truth(text, at + 1, w, out),
+        Some(b'f') => fact(text, at + 1, w, out),
+        _ => Err(ParseError::NoFormula(at)),
     }
-    if b == Some(b'f') {
-        return fact(text, at + 1, w, out);
-    }
-    Err(ParseError::NoFormula(at))
 }
 
 // After `t`: `r`, `u`, `e`.
@@ -57,14 +54,10 @@ fn truth(text: &[u8], at: usize, w: Writing, out: &mut [u8]) -> Parse
     requires { at ≤ length text.now }
     ensures { got_of (seen_of result out.new) ≡ map_got (λ (a : Formula). build a (work_of w out.old)) (true_at text.now at) }
 {
-    if byte_at(text, at) != Some(b'r') {
-        return Err(ParseError::NoFormula(at));
-    }
-    if byte_at(text, at + 1) != Some(b'u') {
-        return Err(ParseError::NoFormula(at + 1));
-    }
-    if byte_at(text, at + 2) != Some(b'e') {
-        return Err(ParseError::NoFormula(at + 2));
+    for (i, &b) in b"rue".iter().enumerate() {
+        if byte_at(text, at + i) != Some(b) {
+            return Err(ParseError::NoFormula(at + i));
+        }
     }
     let writing = write(w, b'T', out);
     Ok(Parsed {
@@ -81,7 +74,7 @@ fn fact(text: &[u8], at: usize, w: Writing, out: &mut [u8]) -> Parse
     let Some(b) = byte_at(text, at) else {
         return Err(ParseError::NoFormula(at));
     };
-    if !is_digit(b) {
+    if !b.is_ascii_digit() {
         return Err(ParseError::NoFormula(at));
     }
     match byte_at(text, at + 1) {
@@ -90,17 +83,15 @@ fn fact(text: &[u8], at: usize, w: Writing, out: &mut [u8]) -> Parse
     }
 }
 
-fn is_digit(b: u8) -> bool
-    ensures { result ≡ is_digit b }
-{
-    (b'0' <= b) & (b <= b'9')
-}
-
 // Two digits that are a fact's number: 10 to 31.
 fn is_pair(b: u8, c: u8) -> bool
     ensures { result ≡ is_pair b c }
 {
-    is_digit(c) & (((b'1' <= b) & (b <= b'2')) | ((b == b'3') & (c <= b'1')))
+    match b {
+        b'1' | b'2' => c.is_ascii_digit(),
+        b'3' => matches!(c, b'0' | b'1'),
+        _ => false,
+    }
 }
 
 fn one_digit(at: usize, b: u8, w: Writing, out: &mut [u8]) -> Parse

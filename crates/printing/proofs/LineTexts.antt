@@ -1,19 +1,14 @@
 -- The text of a node of a given table, by the letter of its line: two nodes, one node, or none. The nodes named have lower numbers.
 use Prim.Native.Nat.{ℕ, ◌<◌}
 use mathlib.Core.Path.{◌≡◌, refl, sym, ap, ap₂, subst, ◌∙◌}
-use mathlib.Core.Logic.{◌⊎◌, inl, inr, ⊎_elim}
-use mathlib.Core.Bool.{true, false, ◌||◌, true≢false}
+use mathlib.Core.Logic.{◌⊎◌, inl, inr}
 use mathlib.Core.List.{List, ◌∷◌, ◌++◌}
 use native.Mathlib.Omega.{arith}
-use borrow.Author.Tests.{eqb-true, eq-eqb}
-use lib.Dec.{eqb}
 use Rattle.aldlf.specs.Constants.{letter_n, letter_a, letter_o, letter_d, letter_b}
 use Rattle.aldlf.specs.Sheet.{Sheet, Line, N, A, O, D, B, line_of, sheet_of}
 use Rattle.aldlf.specs.declared.NodeLine.{NodeLine}
 use Rattle.aldlf.specs.declared.Table.{Table}
-use Rattle.aldlf.proofs.Bools.{or_cases, or_left, or_right}
 use Rattle.aldlf.proofs.ByLine.{Known}
-use Rattle.aldlf.proofs.Letters.{either_letter}
 use Rattle.sheet.specs.Facts.{node_at, TableFacts}
 use Rattle.sheet.proofs.Sound.{names_earlier}
 use Rattle.printing.specs.Print.{bracketed, node_text}
@@ -23,18 +18,7 @@ use Rattle.printing.proofs.PieceLaws.{leaf_line, prefix_not, prefix_some, prefix
 
 -- the letter of a line that names one node
 abbrev pub OneNode : ℕ → Type 0
-OneNode kind = (kind ≡ letter_n) ⊎ ((kind ≡ letter_d) ⊎ (kind ≡ letter_b))
-
-pub one_letter : (c : ℕ) → (eqb c letter_n || eqb c letter_d) || eqb c letter_b ≡ true → OneNode c
-one_letter c e = ⊎_elim
-    (λ q. ⊎_elim (λ n. inl n) (λ d. inr (inl d)) (either_letter c letter_n letter_d q))
-    (λ q. inr (inr (eqb-true c letter_b q)))
-    (or_cases (eqb c letter_n || eqb c letter_d) (eqb c letter_b) e)
-
-pub no_one_letter : (c : ℕ) → (eqb c letter_n || eqb c letter_d) || eqb c letter_b ≡ false → ¬ (OneNode c)
-no_one_letter c e (inl n) = true≢false (sym (or_left (eqb c letter_b) (or_left (eqb c letter_d) (eq-eqb c letter_n n))) ∙ e)
-no_one_letter c e (inr (inl d)) = true≢false (sym (or_left (eqb c letter_b) (or_right (eqb c letter_n) (eq-eqb c letter_d d))) ∙ e)
-no_one_letter c e (inr (inr b)) = true≢false (sym (or_right (eqb c letter_n || eqb c letter_d) (eq-eqb c letter_b b)) ∙ e)
+OneNode kind = (kind ≡ letter_b) ⊎ ((kind ≡ letter_d) ⊎ (kind ≡ letter_n))
 
 -- the table's line of node k is x
 module _ (t : Table) (f : TableFacts t) (k : ℕ) (x : NodeLine) (is : x ≡ node_at t k) where
@@ -62,27 +46,27 @@ module _ (t : Table) (f : TableFacts t) (k : ℕ) (x : NodeLine) (is : x ≡ nod
 
   -- a line that names one
   pub one_text : OneNode x.kind → node_text S k ≡ bracketed (prefix_text x ++ node_text S (operand_of x))
-  one_text (inl e) =
+  one_text (inr (inr e)) =
       text_is S k (N x.a) (line-by letter_n e) (known _ (line-by letter_n e))
       ∙ ap₂ (λ (p : List ℕ) (a : ℕ). bracketed (p ++ node_text S a)) (prefix_not x e) (operand_first x e)
   one_text (inr (inl e)) =
       let n : ¬ (x.kind ≡ letter_n) = λ z. let q : letter_d ≡ letter_n = sym e ∙ z in absurd (omega arith) in
       text_is S k (D x.a x.b) (line-by letter_d e) (known _ (line-by letter_d e))
       ∙ ap₂ (λ (p : List ℕ) (a : ℕ). bracketed (p ++ node_text S a)) (prefix_some x n e) (operand_second x n)
-  one_text (inr (inr e)) =
+  one_text (inl e) =
       let n : ¬ (x.kind ≡ letter_n) = λ z. let q : letter_b ≡ letter_n = sym e ∙ z in absurd (omega arith) in
       let d : ¬ (x.kind ≡ letter_d) = λ z. let q : letter_b ≡ letter_d = sym e ∙ z in absurd (omega arith) in
       text_is S k (B x.a x.b) (line-by letter_b e) (known _ (line-by letter_b e))
       ∙ ap₂ (λ (p : List ℕ) (a : ℕ). bracketed (p ++ node_text S a)) (prefix_every x n d) (operand_second x n)
 
   pub one_lower : OneNode x.kind → operand_of x < k
-  one_lower (inl e) = subst (λ (a : ℕ). a < k) (operand_first x e) (known _ (line-by letter_n e) x.a refl)
+  one_lower (inr (inr e)) = subst (λ (a : ℕ). a < k) (operand_first x e) (known _ (line-by letter_n e) x.a refl)
   one_lower (inr (inl e)) = subst (λ (a : ℕ). a < k) (operand_second x (λ z. let q : letter_d ≡ letter_n = sym e ∙ z in absurd (omega arith))) (known _ (line-by letter_d e) x.b (inl refl))
-  one_lower (inr (inr e)) = subst (λ (a : ℕ). a < k) (operand_second x (λ z. let q : letter_b ≡ letter_n = sym e ∙ z in absurd (omega arith))) (known _ (line-by letter_b e) x.b (inl refl))
+  one_lower (inl e) = subst (λ (a : ℕ). a < k) (operand_second x (λ z. let q : letter_b ≡ letter_n = sym e ∙ z in absurd (omega arith))) (known _ (line-by letter_b e) x.b (inl refl))
 
   -- a line that names none
   pub leaf-text : (¬ (x.kind ≡ letter_a)) × (¬ (x.kind ≡ letter_o)) → ¬ (OneNode x.kind) → node_text S k ≡ leaf_text x
   leaf-text two one =
       let l = line_of x.kind x.a x.b in
       text_is S k l (line-by x.kind refl) (known l (line-by x.kind refl))
-      ∙ leaf_line x (node_text S) (λ e. one (inl e)) two.0 two.1 (λ e. one (inr (inl e))) (λ e. one (inr (inr e)))
+      ∙ leaf_line x (node_text S) (λ e. one (inr (inr e))) two.0 two.1 (λ e. one (inr (inl e))) (λ e. one (inl e))

@@ -31,16 +31,17 @@ fn last_place(numbers: &[u32], node: Node, lasts: &[usize], room: usize) -> usiz
     ensures { (t : Table) → Lent t numbers.now → Measured (sheet_of t) room node.0 lasts.now → result ≡ last_place room (node_text (sheet_of t) node.0) }
 {
     let line = line_at(numbers, node);
-    let kind = line.kind;
-    if (kind == b'A') | (kind == b'O') {
-        let both = further(lasts[line.a as usize], lasts[line.b as usize], room);
-        return further(both, 4, room);
+    match line.kind {
+        b'A' | b'O' => {
+            let both = further(lasts[line.a as usize], lasts[line.b as usize], room);
+            further(both, 4, room)
+        }
+        b'N' | b'D' | b'B' => {
+            let under = operand(line);
+            further(lasts[under.0 as usize], prefix_bytes(line) + 2, room)
+        }
+        _ => further(0, leaf_bytes(line) - 1, room),
     }
-    if (kind == b'N') | (kind == b'D') | (kind == b'B') {
-        let under = operand(line);
-        return further(lasts[under.0 as usize], prefix_bytes(line) + 2, room);
-    }
-    further(0, leaf_bytes(line) - 1, room)
 }
 
 // So many places further, but not past the room: no sum overflows, however long a text is.

@@ -11,43 +11,36 @@ use appending::{put, put_bytes, put_number};
 pub(crate) fn put_leaf(out: &mut [u8], at: usize, line: NodeLine) -> usize
     ensures { Appends (leaf_text line) out.old at out.new result }
 {
-    let kind = line.kind;
-    if kind == b'T' {
-        return put_bytes(out, at, b"true");
+    match line.kind {
+        b'T' => put_bytes(out, at, b"true"),
+        b'P' => {
+            let next = put(out, at, b'f');
+            put_number(out, next, line.a as usize)
+        }
+        _ => put_bytes(out, at, b"false"),
     }
-    if kind == b'P' {
-        let next = put(out, at, b'f');
-        return put_number(out, next, line.a as usize);
-    }
-    put_bytes(out, at, b"false")
 }
 
 // How many bytes these are.
 pub(crate) fn leaf_bytes(line: NodeLine) -> usize
     ensures { (result ≡ length (leaf_text line)) × (1 ≤ result) }
 {
-    let kind = line.kind;
-    if kind == b'T' {
-        return 4;
+    match line.kind {
+        b'T' => 4,
+        b'P' => 1 + digits(line.a),
+        _ => 5,
     }
-    if kind == b'P' {
-        return 1 + digits(line.a);
-    }
-    5
 }
 
 // What stands before the node of an N, D or B: `!`, `<m3>`, `[m3]`.
 pub(crate) fn put_prefix(out: &mut [u8], at: usize, line: NodeLine) -> usize
     ensures { Appends (prefix_text line) out.old at out.new result }
 {
-    let kind = line.kind;
-    if kind == b'N' {
-        return put(out, at, b'!');
+    match line.kind {
+        b'N' => put(out, at, b'!'),
+        b'D' => put_marked(out, at, b'<', line.a, b'>'),
+        _ => put_marked(out, at, b'[', line.a, b']'),
     }
-    if kind == b'D' {
-        return put_marked(out, at, b'<', line.a, b'>');
-    }
-    put_marked(out, at, b'[', line.a, b']')
 }
 
 // How many bytes these are.
@@ -55,9 +48,10 @@ pub(crate) fn prefix_bytes(line: NodeLine) -> usize
     ensures { (result ≡ length (prefix_text line)) × (result < 7) }
 {
     if line.kind == b'N' {
-        return 1;
+        1
+    } else {
+        3 + digits(line.a)
     }
-    3 + digits(line.a)
 }
 
 // An automaton, `m` and its number, between the marks of a path.
@@ -75,12 +69,12 @@ fn digits(n: u8) -> usize
     ensures { (result ≡ length (decimal n)) × (result < 4) }
 {
     if n < 10 {
-        return 1;
+        1
+    } else if n < 100 {
+        2
+    } else {
+        3
     }
-    if n < 100 {
-        return 2;
-    }
-    3
 }
 
 // The node of an N, D or B.
@@ -88,17 +82,15 @@ pub(crate) fn operand(line: NodeLine) -> Node
     ensures { result.0 ≡ operand_of line }
 {
     if line.kind == b'N' {
-        return Node(line.a);
+        Node(line.a)
+    } else {
+        Node(line.b)
     }
-    Node(line.b)
 }
 
 // What stands between the nodes of an A or O.
 pub(crate) fn operator(line: NodeLine) -> u8
     ensures { result ≡ operator_of line }
 {
-    if line.kind == b'A' {
-        return b'&';
-    }
-    b'|'
+    if line.kind == b'A' { b'&' } else { b'|' }
 }

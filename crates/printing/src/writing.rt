@@ -19,19 +19,20 @@ pub(crate) fn put_node(numbers: &[u32], node: Node, out: &mut [u8], at: usize) -
     ensures { (t : Table) → Lent t numbers.now → Appends (node_text (sheet_of t) node.0) out.old at out.new result }
 {
     let line = line_at(numbers, node);
-    let kind = line.kind;
-    if (kind == b'A') | (kind == b'O') {
-        let opened = put(out, at, b'(');
-        let left = put_node(numbers, Node(line.a), out, opened);
-        let parted = put(out, left, operator(line));
-        let right = put_node(numbers, Node(line.b), out, parted);
-        return put(out, right, b')');
+    match line.kind {
+        b'A' | b'O' => {
+            let opened = put(out, at, b'(');
+            let left = put_node(numbers, Node(line.a), out, opened);
+            let parted = put(out, left, operator(line));
+            let right = put_node(numbers, Node(line.b), out, parted);
+            put(out, right, b')')
+        }
+        b'N' | b'D' | b'B' => {
+            let opened = put(out, at, b'(');
+            let marked = put_prefix(out, opened, line);
+            let next = put_node(numbers, operand(line), out, marked);
+            put(out, next, b')')
+        }
+        _ => put_leaf(out, at, line),
     }
-    if (kind == b'N') | (kind == b'D') | (kind == b'B') {
-        let opened = put(out, at, b'(');
-        let marked = put_prefix(out, opened, line);
-        let next = put_node(numbers, operand(line), out, marked);
-        return put(out, next, b')');
-    }
-    put_leaf(out, at, line)
 }

@@ -37,7 +37,7 @@ refused_line rule n rest zero new z = absurd (z refl)
 refused_line rule n rest (suc q) new z = refl
 
 module _ (given : Bool) (S : Sheet) (log buffer : List ℕ) where
-  -- the answer Held: there are two places for each entry, and the page goes on with the verdicts
+  -- the answer Ok: there are two places for each entry, and the page goes on with the verdicts
   pub held_room : (a : Result ℕ Refusal) (h : ℕ) (new : List ℕ) → a ≡ Ok h → whole_of a new ≡ whole_outcome given S log buffer → 2 * length log ≤ length buffer
   held_room a h new r e = leb-true (2 * length log) (length buffer) (whole_yes given S log buffer (ap (λ (w : Whole). w.number) (sym e ∙ ap (λ (x : Result ℕ Refusal). whole_of x new) r))).2
 
@@ -46,7 +46,7 @@ module _ (given : Bool) (S : Sheet) (log buffer : List ℕ) where
   unfolding judged_page
   held_page rule n rest a h new r e = ap (judged_page rule n rest) (ap (λ (x : Result ℕ Refusal). whole_of x new) (sym r) ∙ e)
 
-  -- the answer Refused: its line
+  -- the answer Err: its line
   pub refused_page : (rule n : ℕ) (rest : List ℕ) (a : Result ℕ Refusal) (q : Refusal) (new : List ℕ) → a ≡ Err q → whole_of a new ≡ whole_outcome given S log buffer
       → is_held a ≡ eqb (whole_number given log buffer) 0 → refusal_line (refusal_number q) 0 ≡ judged_page rule n rest (whole_outcome given S log buffer)
   refused_page rule n rest a q new r e f =

@@ -10,5 +10,4 @@ returns-then-s-lt15 c =
 pub returns : goal.returns
 returns c =
     let a = c.args in
-    let pre = c.requires in
-    alt_full a.c c.killed.result a.links.now pre.1 c.killed.ensures pre.0 c.if-s-lt15.false a.left
+    alt_full a.c a.links.now c.requires.1 c.if-s-lt15.false a.left

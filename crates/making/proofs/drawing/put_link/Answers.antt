@@ -11,4 +11,4 @@ pub returns : goal.returns
 returns c =
     let a = c.args in
     let pre = c.requires in
-    drawn_full a.c a.links.now pre.1 c.killed.result c.link_room.result a.e c.killed.ensures c.link_room.ensures c.if-link_room.false pre.0
+    drawn_full a.c a.links.now pre.1 c.link_room.result a.e c.link_room.ensures c.if-link_room.false pre.0

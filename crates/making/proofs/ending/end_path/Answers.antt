@@ -27,5 +27,4 @@ returns c =
     let a = c.args in
     let pre = c.requires in
     let has_room = c.has_room in
-    let killed = c.killed-counts in
-    path_refused a.c a.links.now pre.2 pre.1 killed.result c.no_automaton-automaton.result has_room.result a.op a.stack.now a.edges.now killed.ensures has_room.ensures c.if-has_room.false
+    path_refused a.c a.links.now pre.2 pre.1 has_room.result a.op a.stack.now a.edges.now has_room.ensures c.if-has_room.false

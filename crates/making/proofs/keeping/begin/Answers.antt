@@ -6,9 +6,9 @@ pub returns-then-link_room : goal.returns-then-link_room
 returns-then-link_room c =
     let a = c.args in
     let push = c.push in
-    begun_yes a.c a.stack.now push.new.stack c.link_room.result c.link_room.ensures c.if-link_room.true c.requires.2 push.ensures
+    begun_yes a.c a.stack.now push.new.stack c.link_room.result c.link_room.ensures c.if-link_room.true c.requires.1 push.ensures
 
 pub returns : goal.returns
 returns c =
     let a = c.args in
-    begun_no a.c a.stack.now a.stack.now c.killed.result c.link_room.result c.killed.ensures c.link_room.ensures c.if-link_room.false c.requires.2
+    begun_no a.c a.stack.now a.stack.now c.link_room.result c.link_room.ensures c.if-link_room.false c.requires.1

@@ -7,4 +7,4 @@ returns c =
     let a = c.args in
     let kept_by = c.kept_by-k in
     let push = c.push in
-    keep_more a.c a.op c.with_top.result kept_by.result a.stack.now push.new.stack c.with_top.ensures c.requires.2 kept_by.ensures push.ensures
+    keep_more a.c a.op c.with_top.result kept_by.result a.stack.now push.new.stack c.with_top.ensures c.requires.1 kept_by.ensures push.ensures

@@ -11,7 +11,7 @@ use Rattle.making.proofs.keeping.kept_by.Goals as goal
 pub returns-in-44 : goal.returns-in-44
 returns-in-44 c =
     let a = c.args in
-    kept_node a.c a.op c.newest.result c.requires c.in-44.is c.newest.ensures
+    kept_node a.c a.op c.newest.result c.in-44.is c.newest.ensures
 
 pub returns-in-33 : goal.returns-in-33
 returns-in-33 c =
@@ -21,4 +21,4 @@ returns-in-33 c =
 pub returns-in_default : goal.returns-in_default
 returns-in_default c =
     let a = c.args in
-    kept_part a.c a.op c.requires (omega arith) (omega arith)
+    kept_part a.c a.op (omega arith) (omega arith)

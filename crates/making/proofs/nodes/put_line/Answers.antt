@@ -10,4 +10,4 @@ returns-then-n-lt-NODES c =
 pub returns : goal.returns
 returns c =
     let a = c.args in
-    lined_no a.c a.lines.now a.x c.killed.result c.killed.ensures c.if-n-lt-NODES.false
+    lined_no a.c a.lines.now a.x c.if-n-lt-NODES.false

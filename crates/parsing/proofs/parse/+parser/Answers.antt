@@ -1,12 +1,12 @@
 -- The parser's cycle of six functions meets its contracts: the depth that is left falls at each mark, three times over for the calls between; each loop goes on by the text that is left. Assumes nothing.
 use Prim.Native.Nat.{ℕ, ◌+◌, ◌-◌, ◌≤◌, ◌<◌}
-use mathlib.Core.Path.{refl, sym, ap, ◌∙◌}
+use mathlib.Core.Path.{◌≡◌, refl, sym, subst, ap, ◌∙◌}
 use native.Mathlib.Omega.{arith}
 use lib.ListN.{length}
 use Rattle.formula.specs.Formula.{Formula, Path}
-use Rattle.formula.specs.Parse.{Inner, map_got, is_prefix, operand_at, inner}
+use Rattle.formula.specs.Parse.{Inner, byte, map_got, is_prefix, operand_at, inner}
 use Rattle.parsing.specs.Work.{work_of}
-use Rattle.std.specs.Prelude.{Ok, Err}
+use Rattle.std.specs.Prelude.{Ok, Err, Option}
 use Rattle.std.specs.Option.{unwrap_or}
 use Rattle.std.proofs.lemmas.Result.{err_from_is_err_and}
 use Rattle.parsing.specs.Build.{build, build_in, seen_of, got_of, end_of}
@@ -154,33 +154,40 @@ pub path-loop-p-preserved : goal.path-loop-p-preserved
 path-loop-p-preserved t c = (c.loop-p.invariant.0, (path_on t (goal.at.path-loop-p-preserved t c).In-Goes).2)
 
 pub piece-overflow_add-at : goal.piece-overflow_add-at
-piece-overflow_add-at t c = let h = byte_there c.args.text.now c.args.at 123 (is_there c.byte_at-b.result _ 123 c.byte_at-b.ensures c.eq.ensures c.if-eq.true) (omega arith) in omega arith
+piece-overflow_add-at t c = let h = byte_there c.args.text.now c.args.at 123 (omega (arith, c.in-Some-eq123.ensures, c.in-Some-eq123.field-0-is)) (omega arith) in omega arith
 
-pub piece-returns-then-eq : goal.piece-returns-then-eq
+pub piece-returns-in-Some-eq123 : goal.piece-returns-in-Some-eq123
 unfolding got_of
-piece-returns-then-eq t c =
+piece-returns-in-Some-eq123 t c =
     let a = c.args in
     let L = c.formula-p.new.out in
-    piece_step a.text.now (inner a.text.now a.depth) a.at (work_of a.w a.out.now) (is_there c.byte_at-b.result _ 123 c.byte_at-b.ensures c.eq.ensures c.if-eq.true) _
+    piece_step a.text.now (inner a.text.now a.depth) a.at (work_of a.w a.out.now) (omega (arith, c.in-Some-eq123.ensures, c.in-Some-eq123.field-0-is)) _
     (seen_of c.formula-p.result L) (seen_of c.close-q.result L) (seen_of c.step_of.result c.step_of.new.out)
     (c.masked_at-f.ensures a.out.now) c.formula-p.ensures (c.close-q.ensures L) c.step_of.ensures
 
-pub piece-overflow_add-at-then-eq-2 : goal.piece-overflow_add-at-then-eq-2
-piece-overflow_add-at-then-eq-2 t c = let h = byte_there c.args.text.now c.args.at 40 (is_there c.byte_at-b.result _ 40 c.byte_at-b.ensures c.eq-2.ensures c.if-eq-2.true) (omega arith) in omega arith
+pub piece-overflow_add-at-in-Some-eq40 : goal.piece-overflow_add-at-in-Some-eq40
+piece-overflow_add-at-in-Some-eq40 t c = let h = byte_there c.args.text.now c.args.at 40 (omega (arith, c.in-Some-eq40.ensures, c.in-Some-eq40.field-0-is)) (omega arith) in omega arith
 
-pub piece-returns-then-eq-2 : goal.piece-returns-then-eq-2
+pub piece-returns-in-Some-eq40 : goal.piece-returns-in-Some-eq40
 unfolding got_of
-piece-returns-then-eq-2 t c =
+piece-returns-in-Some-eq40 t c =
     let a = c.args in
     let L = c.path-p.new.out in
-    piece_bracket a.text.now (inner a.text.now a.depth) a.at (work_of a.w a.out.now) (is_there c.byte_at-b.result _ 40 c.byte_at-b.ensures c.eq-2.ensures c.if-eq-2.true)
+    piece_bracket a.text.now (inner a.text.now a.depth) a.at (work_of a.w a.out.now) (omega (arith, c.in-Some-eq40.ensures, c.in-Some-eq40.field-0-is))
     (seen_of c.path-p.result L) (seen_of c.close.result L) c.path-p.ensures (c.close.ensures L)
 
-pub piece-returns : goal.piece-returns
+pub piece-returns-in_default : goal.piece-returns-in_default
 unfolding got_of
-piece-returns t c =
+piece-returns-in_default t c =
     let a = c.args in
-    piece_none a.text.now (inner a.text.now a.depth) a.at (work_of a.w a.out.now) (not_there c.byte_at-b.result _ 123 (omega arith) c.byte_at-b.ensures c.eq.ensures c.if-eq.false) (not_there c.byte_at-b.result _ 40 (omega arith) c.byte_at-b.ensures c.eq-2.ensures c.if-eq-2.false)
+    piece_none a.text.now (inner a.text.now a.depth) a.at (work_of a.w a.out.now) (omega (arith, c.in_default.ensures)) (omega (arith, c.in_default.ensures))
+
+pub piece-returns-in_default-2 : goal.piece-returns-in_default-2
+unfolding got_of
+piece-returns-in_default-2 t c =
+    let a = c.args in
+    let e = subst (λ (o : Option ℕ). unwrap_or o 256 ≡ byte a.text.now a.at) c.in_default.is c.byte_at.ensures in
+    piece_none a.text.now (inner a.text.now a.depth) a.at (work_of a.w a.out.now) (omega (arith, e)) (omega (arith, e))
 
 pub prefix-overflow_add-result : goal.prefix-overflow_add-result
 prefix-overflow_add-result t c = let h = byte_there c.args.text.now c.args.at 33 (is_there c.byte_at-b.result _ 33 c.byte_at-b.ensures c.eq.ensures c.if-eq.true) (omega arith) in omega arith

@@ -14,9 +14,9 @@ pub returns-in_default : goal.returns-in_default
 unfolding got_of
 returns-in_default c = fact_1 c.args.text.now c.args.at (work_of c.args.w c.args.out.now) (ap (λ (z : ℕ). is_digit z) (sym c.in_default.ensures))
 
-pub returns-then-not-is_digit : goal.returns-then-not-is_digit
+pub returns-then-not-is_ascii_digit : goal.returns-then-not-is_ascii_digit
 unfolding got_of
-returns-then-not-is_digit c = fact_1 c.args.text.now c.args.at (work_of c.args.w c.args.out.now) (ap (λ (z : ℕ). is_digit z) (sym c.in-Some.ensures) ∙ sym c.is_digit.ensures ∙ c.if-not-is_digit.true)
+returns-then-not-is_ascii_digit c = fact_1 c.args.text.now c.args.at (work_of c.args.w c.args.out.now) (ap (λ (z : ℕ). is_digit z) (sym c.in-Some.ensures) ∙ sym c.is_ascii_digit.ensures.value ∙ c.if-not-is_ascii_digit.true)
 
 pub returns-in-Some-byte_at : goal.returns-in-Some-byte_at
 returns-in-Some-byte_at c =
@@ -27,7 +27,7 @@ returns-in-Some-byte_at c =
     c.two_digits.ensures
     ∙ ap (λ (z : ℕ). fact_by ((z - 48) * 10 + (c.in-Some-byte_at.c - 48)) (a.at + 2) w) b
     ∙ ap (λ (z : ℕ). fact_by ((byte a.text.now a.at - 48) * 10 + (z - 48)) (a.at + 2) w) d
-    ∙ fact_2 a.text.now a.at w (ap (λ (z : ℕ). is_digit z) (sym b) ∙ sym c.is_digit.ensures ∙ c.if-not-is_digit.false)
+    ∙ fact_2 a.text.now a.at w (ap (λ (z : ℕ). is_digit z) (sym b) ∙ sym c.is_ascii_digit.ensures.value ∙ c.if-not-is_ascii_digit.false)
     (ap (λ (z : ℕ). is_pair z (byte a.text.now (a.at + 1))) (sym b) ∙ ap (λ (z : ℕ). is_pair c.in-Some.b z) (sym d) ∙ sym c.is_pair.ensures ∙ c.if-is_pair.true)
 
 pub returns-in_default-byte_at : goal.returns-in_default-byte_at
@@ -42,4 +42,4 @@ returns-in_default-byte_at c =
       | in_default-byte_at-via-in_default-byte_at v ↦ ap (λ (z : ℕ). is_pair c.in-Some.b z) (sym v.in_default-byte_at.ensures)
     ] in
     c.one_digit.ensures ∙ ap (λ (z : ℕ). fact_by (z - 48) (a.at + 1) w) b
-    ∙ fact_3 a.text.now a.at w (ap (λ (z : ℕ). is_digit z) (sym b) ∙ sym c.is_digit.ensures ∙ c.if-not-is_digit.false) no_pair
+    ∙ fact_3 a.text.now a.at w (ap (λ (z : ℕ). is_digit z) (sym b) ∙ sym c.is_ascii_digit.ensures.value ∙ c.if-not-is_ascii_digit.false) no_pair

@@ -5,14 +5,11 @@ use lib.ListN.{length}
 use Rattle.printing.proofs.PieceLaws.{leaf_true, leaf_fact, leaf_false}
 use Rattle.printing.proofs.pieces.leaf_bytes.Goals as goal
 
-pub returns-then-kind-eq84 : goal.returns-then-kind-eq84
-returns-then-kind-eq84 c = (ap length (leaf_true c.args.line c.if-kind-eq84.true), omega arith)
+pub returns-in-84 : goal.returns-in-84
+returns-in-84 c = (ap length (leaf_true c.args.line c.in-84.is), omega arith)
 
-pub overflow_add-result : goal.overflow_add-result
-overflow_add-result c = omega (arith, c.digits.ensures.1)
+pub returns-in-80 : goal.returns-in-80
+returns-in-80 c = (omega (arith, c.digits.ensures.0, ap length (leaf_fact c.args.line (omega (arith, c.in-80.is)) c.in-80.is)), omega arith)
 
-pub returns-then-kind-eq80 : goal.returns-then-kind-eq80
-returns-then-kind-eq80 c = (omega (arith, c.digits.ensures.0, ap length (leaf_fact c.args.line c.if-kind-eq84.false c.if-kind-eq80.true)), omega arith)
-
-pub returns : goal.returns
-returns c = (ap length (leaf_false c.args.line c.if-kind-eq84.false c.if-kind-eq80.false), omega arith)
+pub returns-in_default : goal.returns-in_default
+returns-in_default c = (ap length (leaf_false c.args.line (omega arith) (omega arith)), omega arith)
