@@ -6,8 +6,8 @@ use native.Mathlib.Omega.{arith}
 use native.Mathlib.Numerals.{add-one}
 use borrow.Rule.Slice.PartMut.{put_mid}
 use Rattle.std.proofs.lemmas.List.Edits.{sets-eq}
-use Rattle.std.proofs.lemmas.List.{append_assoc, drop-drop, ext_get_or}
-use lib.ListN.{length, get_or, take, drop, set, length-map}
+use Rattle.std.proofs.lemmas.List.{append_assoc, drop-drop}
+use lib.ListN.{length, get_or, take, drop, set, length-map, get_or-map}
 use lib.Seq.{sets, take-suc, take-suc-set, length-take-le, get_or-drop, take_all}
 
 module _ {A B : Type 0} (f : A → B) where
@@ -41,11 +41,17 @@ module _ {A B : Type 0} (f : A → B) where
   pub first_length : (l : List A) (n : ℕ) → n ≤ length l → length (take n (map f l)) ≡ n
   first_length l n h = length-take-le n (map f l) (rw (length-map l f) h)
 
-  -- a list that is read place by place
-  pub mapped : (xs : List A) (r : List B) (n : ℕ) (d : A) (e : B) → length xs ≡ n → length r ≡ n → ((i : ℕ) → i < n → get_or r i e ≡ f (get_or xs i d)) → r ≡ map f xs
-  mapped xs r n d e h k g =
+  -- the first i read one by one, and the next one
+  pub copied_one : (xs : List A) (r : List B) (i : ℕ) (v : B) (d : A) → i < length xs → i < length r → take i r ≡ take i (map f xs) → v ≡ f (get_or xs i d) → take (i + 1) (set r i v) ≡ take (i + 1) (map f xs)
+  copied_one xs r i v d h k e g =
+      let l : i < length (map f xs) = rw (length-map xs f) h in
+      rw (add-one)
+      (take-suc-set r i v k ∙ ap (λ (z : List B). z ++ (v ∷ [])) e ∙ ap (λ (z : B). take i (map f xs) ++ (z ∷ [])) (g ∙ sym (get_or-map f xs i d)) ∙ sym (take-suc (map f xs) i (f d) l))
+
+  pub copied_all : (xs : List A) (r : List B) (i n : ℕ) → length xs ≡ n → length r ≡ n → n ≤ i → i ≤ n → take i r ≡ take i (map f xs) → r ≡ map f xs
+  copied_all xs r i n h k l m e =
       let z = length-map xs f in
-      ext_get_or e r (map f xs) (omega arith) (λ i l. g i (omega arith) ∙ sym (Rattle.std.proofs.lemmas.List.get_or-map f xs i d e (omega arith)))
+      sym (take_all i r (omega arith)) ∙ e ∙ take_all i (map f xs) (omega arith)
 
 module _ {A : Type 0} where
   -- the part from b to n

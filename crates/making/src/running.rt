@@ -14,7 +14,7 @@ use super::keeping::{begin, keep, keeps_something};
 use super::nodes::{make_node, makes_node, put_line};
 use aldlf::{Automaton, Edge, NodeLine, Table, Used};
 use packing::pieces::{edge_in, line_in};
-use sheet::empty::no_automaton;
+use sheet::empty::{no_automaton, no_edge, no_line};
 
 // The counts with node 0, which is T.
 fn first_counts(lines: &mut [u32; aldlf::NODES]) -> Option<Counts>
@@ -40,15 +40,23 @@ fn lines_of(lines: &[u32; aldlf::NODES]) -> [NodeLine; aldlf::NODES]
     requires { length lines.now ≡ node_limit }
     ensures { result ≡ lines_in lines.now }
 {
-    lines.map(line_in)
+    let mut r = [no_line(); aldlf::NODES];
+    for (i, &p) in lines.iter().enumerate() {
+        r[i] = line_in(p);
+    }
+    r
 }
 
-// The edges in the numbers.
+// The edges in the numbers, by a loop like that of the lines. An array's `map` was tried for both, and reading a short formula took nearly twice as long.
 fn edges_of(edges: &[u32; aldlf::EDGES]) -> [Edge; aldlf::EDGES]
     requires { length edges.now ≡ edge_limit }
     ensures { result ≡ edges_in edges.now }
 {
-    edges.map(edge_in)
+    let mut r = [no_edge(); aldlf::EDGES];
+    for (i, &p) in edges.iter().enumerate() {
+        r[i] = edge_in(p);
+    }
+    r
 }
 
 // What the instructions came to.

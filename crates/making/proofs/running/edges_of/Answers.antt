@@ -1,11 +1,17 @@
--- `edges_of` meets its contract: the array's map, place by place. Assumes nothing.
-use Rattle.aldlf.specs.declared.Edge.{Edge}
+-- `edges_of` meets its contract: after i turns the first i are read. Assumes nothing.
+use mathlib.Core.Path.{◌∙◌}
+use native.Mathlib.Omega.{arith}
+use lib.ListN.{length-set}
 use Rattle.packing.specs.Numbers.{edge_in}
-use Rattle.making.proofs.Lists.{mapped}
+use Rattle.making.proofs.Lists.{copied_one, copied_all}
 use Rattle.making.proofs.running.edges_of.Goals as goal
+
+pub loop-i-preserved : goal.loop-i-preserved
+loop-i-preserved c =
+    let loop = c.loop-i in
+    (length-set loop.r loop.i c.edge_in.result ∙ loop.invariant.0, copied_one edge_in c.args.edges.now loop.r loop.i c.edge_in.result 0 (omega arith) (let h = loop.invariant in omega (arith, c.requires)) loop.invariant.1 c.edge_in.ensures)
 
 pub returns : goal.returns
 returns c =
-    let m = c.map.ensures.items in
-    let d : Edge = record { from = record { 0 = 0 }; dir = 0; test = record { 0 = 0 }; to = record { 0 = 0 } } in
-    mapped edge_in c.args.edges.now c.map.result 256 0 d c.requires m.long (λ i h. (let z = m.at i 0 d h in let y = z.2 in y.met))
+    let loop = c.loop-i in
+    copied_all edge_in c.args.edges.now loop.r loop.i 256 c.requires loop.invariant.0 (omega (arith, c.requires)) (omega (arith, c.requires)) loop.invariant.1
