@@ -84,7 +84,8 @@ fn turn(v: Visit, steps: &[u16], masks: &mut [u16], todo: &mut [u16]) -> bool
     ahead
 }
 
-// The entry closed; whether its mask changed.
+// The entry closed; whether its mask changed. The hint: with a call of its own for each entry, judging a zigzag took a fifth more.
+#[inline(always)]
 fn visit_entry(v: Visit, steps: &[u16], masks: &mut [u16]) -> bool
     requires placed { Placed (length masks.old) steps.now }
     requires v_in_bounds { v.entry < length masks.old }

@@ -10,33 +10,30 @@ ghost use Rattle.reach.specs.Columns.{group_of, column_of, Pulled, Held, Apart, 
 use super::verdict;
 use aldlf::Node;
 
-// The states with a step into the mask, by the 16 columns from a place on. Most automata have few states: then four columns are enough. Where all are
-// due, each is read, and taken or not with no branch, so that the machine takes many at a time.
+// The states with a step into the mask, by the 16 columns from a place on. Most automata have few states: then four columns are enough.
 pub(crate) fn pull(steps: &[u16], place: usize, mask: u16) -> u16
     requires { place + state_limit ≤ length steps.now }
     ensures { Pulled steps.now place mask state_limit result }
 {
     if mask < 16 {
-        return pull_four(steps, place, mask);
+        pull_first::<4>(steps, place, mask)
+    } else {
+        pull_first::<16>(steps, place, mask)
     }
-    let mut found: u16 = 0;
-    for t in 0..16 {
-        let column = steps[place + t as usize];
-        found |= if has(mask, t) { column } else { 0 };
-    }
-    found
 }
 
-// The same by the first four columns alone. A column that leads to no state of the mask is not read, and most do not: here that is faster.
-fn pull_four(steps: &[u16], place: usize, mask: u16) -> u16
-    requires { place + state_limit ≤ length steps.now }
-    ensures { Pulled steps.now place mask 4 result }
+// The same by the first N columns alone. A column that leads to no state of the mask is not read: where few states are marked, most do not, and that
+// is faster than to read all.
+fn pull_first<const N: u16>(steps: &[u16], place: usize, mask: u16) -> u16
+    requires count { N ≤ state_limit }
+    requires in_bounds { place + state_limit ≤ length steps.now }
+    ensures { Pulled steps.now place mask N result }
 {
     if mask == 0 {
         return 0;
     }
     let mut found: u16 = 0;
-    for t in 0..4 {
+    for t in 0..N {
         if has(mask, t) {
             found |= steps[place + t as usize];
         }

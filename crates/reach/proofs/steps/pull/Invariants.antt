@@ -1,6 +1,0 @@
--- pull: the target states passed.
-use Rattle.reach.specs.Columns.{Pulled}
-use Rattle.reach.proofs.steps.pull.Given as goal
-
-abbrev pub invariant-loop-t : goal.invariant-loop-t
-invariant-loop-t l = Pulled l.steps l.place l.mask l.t l.found

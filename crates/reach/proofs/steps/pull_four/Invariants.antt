@@ -1,6 +1,0 @@
--- pull_four: the target states passed.
-use Rattle.reach.specs.Columns.{Pulled}
-use Rattle.reach.proofs.steps.pull_four.Given as goal
-
-abbrev pub invariant-loop-t : goal.invariant-loop-t
-invariant-loop-t l = Pulled l.steps l.place l.mask l.t l.found
