@@ -3,10 +3,15 @@ use aldlf::Refusal;
 use std::fmt::Display;
 use std::io;
 
+// A number behind a space.
+pub fn number<T: Copy + Display>(rt: &impl Print, n: T) -> io::Result<()> {
+    print!(rt; " {n}")
+}
+
 // The numbers of a list, each behind a space.
 pub fn numbers<T: Copy + Display>(rt: &impl Print, xs: &[T]) -> io::Result<()> {
     for &x in xs {
-        print!(rt; " {x}")?;
+        number(rt, x)?;
     }
     Ok(())
 }
